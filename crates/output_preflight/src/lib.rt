@@ -1,0 +1,110 @@
+// The framing of a queued data-set body, and what decoding it would cost, before it is decoded (output_budget.rs).
+mod scan;
+
+pub use scan::Scanned;
+pub use scan::Span;
+pub use scan::field;
+pub use scan::scan_fixed_body;
+pub use scan::scan_variable_body;
+ghost use mathlib.Core.Path.{_≡_};
+ghost use Prim.Native.Nat.{_≤_, _<_};
+ghost use lib.ListN.{length};
+ghost use Rattle.wire.specs.Size.{leastSize};
+ghost use Rattle.output_preflight.specs.Scan.{scanOf};
+ghost use Rattle.output_preflight.specs.Preflight.{answerOf, judged, preflightOf};
+use wire::Reading;
+
+// A count of decoded field values.
+pub struct FieldValues(pub usize);
+
+// A count of decoded payload bytes, without length prefixes.
+pub struct PayloadBytes(pub usize);
+
+// What decoding a body costs, in both counts, and how many bytes it leaves.
+pub struct PendingOutputPreflight {
+    pub field_values: FieldValues,
+    pub field_payload_bytes: PayloadBytes,
+    pub remainder_len: usize,
+}
+
+// Why a preflight gives no cost.
+pub enum Refusal {
+    // the record limit is 0
+    ZeroRecordLimit,
+    // the body or the width list is longer than any data set's
+    Oversized,
+    // the body has no valid framing
+    Invalid,
+}
+
+pub enum PreflightAnswer {
+    Valid(PendingOutputPreflight),
+    Refused(Refusal),
+}
+
+// The longest body of a data set: a 16-bit length, less the 4-byte header.
+const MAX_BODY_LEN: usize = 65531;
+
+const MAX_WIDTHS: usize = 65535;
+
+// The whole records of a body. `least` is the least size of a record, above 0.
+fn scan_body(
+    body: &[u8],
+    widths: &[u16],
+    least: usize,
+    reading: Reading,
+    max_records: usize,
+) -> Scanned
+    requires { ⌜ (least ≡ leastSize (now widths) reading) × (0 < least) ⌝ }
+    ensures { λ r. ⌜ r ≡ scanOf (now (body .entry)) (now (widths .entry)) reading «max_records» ⌝ }
+{
+    match reading {
+        Reading::V9Fixed => scan_fixed_body(body.len(), least, max_records),
+        Reading::IpfixFixed => scan_fixed_body(body.len(), least, max_records),
+        Reading::IpfixVariable => scan_variable_body(body, widths, max_records),
+    }
+}
+
+// A scan's cost, where the body is complete: `fields` fields a record.
+fn judge(scanned: Scanned, fields: usize, least: usize, reading: Reading) -> PreflightAnswer
+    requires { ⌜ (fields ≤ 65535) × (scanned .records ≤ 65531) ⌝ }
+    ensures { λ r. ⌜ answerOf r ≡ judged scanned fields least reading ⌝ }
+{
+    let remainder_len = scanned.remainder;
+    let records = scanned.records;
+    if wire::record_body_is_complete(records, remainder_len, least, reading) {
+        let payload = scanned.payload;
+        return PreflightAnswer::Valid(PendingOutputPreflight {
+            field_values: FieldValues(records * fields),
+            field_payload_bytes: PayloadBytes(payload),
+            remainder_len,
+        });
+    }
+    PreflightAnswer::Refused(Refusal::Invalid)
+}
+
+// The cost of decoding a body, or why there is none: at most `max_records` records are counted.
+pub fn preflight(
+    body: &[u8],
+    widths: &[u16],
+    reading: Reading,
+    max_records: usize,
+) -> PreflightAnswer
+    ensures { λ r. ⌜ answerOf r ≡ preflightOf (now (body .entry)) (now (widths .entry)) reading «max_records» ⌝ }
+{
+    if max_records == 0 {
+        return PreflightAnswer::Refused(Refusal::ZeroRecordLimit);
+    }
+    if MAX_BODY_LEN < body.len() {
+        return PreflightAnswer::Refused(Refusal::Oversized);
+    }
+    if MAX_WIDTHS < widths.len() {
+        return PreflightAnswer::Refused(Refusal::Oversized);
+    }
+    let least = wire::minimum_record_size(widths, reading);
+    if least == 0 {
+        return PreflightAnswer::Refused(Refusal::Invalid);
+    }
+    let scanned = scan_body(body, widths, least, reading, max_records);
+    judge(scanned, widths.len(), least, reading)
+}
