@@ -74,7 +74,7 @@ pub fn scan_variable_body(body: &[u8], widths: &[u16], max_records: usize) -> Sc
         let mut at: usize = 0;
         let mut record_payload: usize = 0;
         let mut i: usize = 0;
-        while i < widths.len() {
+        'fields: while i < widths.len() {
             let width = widths[i];
             let Span::Whole { size, content } = field(&rest[at..], width) else {
                 break 'records;

@@ -1,0 +1,1 @@
+// No code: the table of document 01's cases stands in specs/.
