@@ -2,6 +2,8 @@
 
 mod framing;
 mod numbers;
+#[cfg(feature = "live")]
+mod port;
 mod random;
 mod variable_versions;
 
@@ -10,7 +12,8 @@ use std::process::ExitCode;
 use variable_versions::config::{ConfigError, DEFAULT_MAX_RECORDS_PER_FLOWSET};
 
 const USAGE: &str = "\
-usage: oracle record-framing FILE";
+usage: oracle record-framing FILE
+       oracle compare-framing [SEED [COUNT]]   (feature live)";
 
 fn main() -> ExitCode {
     let arguments: Vec<String> = std::env::args().skip(1).collect();
@@ -27,6 +30,23 @@ fn main() -> ExitCode {
 fn run(arguments: &[&str]) -> Result<ExitCode, String> {
     match arguments {
         ["record-framing", file] => framing::record::run(file),
+        #[cfg(feature = "live")]
+        ["compare-framing", rest @ ..] => {
+            let (seed, count) = seed_and_count(rest, framing::compare::DEFAULTS)?;
+            framing::compare::run(seed, count)
+        }
+        _ => Err(USAGE.to_string()),
+    }
+}
+
+/// What the command line gives of the two, else the defaults.
+#[cfg(feature = "live")]
+fn seed_and_count(given: &[&str], defaults: (u64, u64)) -> Result<(u64, u64), String> {
+    let number = |text: &str| text.parse().map_err(|_| format!("not a number: {text}"));
+    match given {
+        [] => Ok(defaults),
+        [seed] => Ok((number(seed)?, defaults.1)),
+        [seed, count] => Ok((number(seed)?, number(count)?)),
         _ => Err(USAGE.to_string()),
     }
 }

@@ -5,3 +5,13 @@ pub const INVALID: u32 = 7;
 
 /// The width that means "variable" in the variable reading, and 65,535 bytes in the fixed ones.
 pub const VARIABLE: u16 = 65_535;
+
+// What the original does not have: met by the comparisons only.
+#[cfg(feature = "live")]
+pub const NO_RECORDS: u32 = 9;
+#[cfg(feature = "live")]
+pub const TOO_LARGE: u32 = 12;
+#[cfg(feature = "live")]
+pub const MAX_BODY: usize = 65_531;
+#[cfg(feature = "live")]
+pub const MAX_WIDTHS: usize = 65_535;

@@ -7,3 +7,10 @@ mod case_list;
 mod families;
 mod generator;
 pub mod record;
+
+#[cfg(feature = "live")]
+pub mod compare;
+#[cfg(feature = "live")]
+mod exhaustive;
+#[cfg(feature = "live")]
+mod giants;
