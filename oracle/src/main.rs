@@ -1,5 +1,6 @@
 //! Runs the original Rust text beside what was ported from it. README.md has the commands.
 
+mod budget;
 mod framing;
 mod numbers;
 #[cfg(feature = "live")]
@@ -13,6 +14,7 @@ use variable_versions::config::{ConfigError, DEFAULT_MAX_RECORDS_PER_FLOWSET};
 
 const USAGE: &str = "\
 usage: oracle record-framing FILE
+       oracle record-budget FILE
        oracle compare-framing [SEED [COUNT]]   (feature live)";
 
 fn main() -> ExitCode {
@@ -30,6 +32,7 @@ fn main() -> ExitCode {
 fn run(arguments: &[&str]) -> Result<ExitCode, String> {
     match arguments {
         ["record-framing", file] => framing::record::run(file),
+        ["record-budget", file] => budget::record::run(file),
         #[cfg(feature = "live")]
         ["compare-framing", rest @ ..] => {
             let (seed, count) = seed_and_count(rest, framing::compare::DEFAULTS)?;

@@ -1,0 +1,6 @@
+//! The decoded-output budget: calls, the original's answers, and what is done with them.
+
+pub mod call;
+mod generator;
+mod original;
+pub mod record;
