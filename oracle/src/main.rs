@@ -15,7 +15,8 @@ use variable_versions::config::{ConfigError, DEFAULT_MAX_RECORDS_PER_FLOWSET};
 const USAGE: &str = "\
 usage: oracle record-framing FILE
        oracle record-budget FILE
-       oracle compare-framing [SEED [COUNT]]   (feature live)";
+       oracle compare-framing [SEED [COUNT]]   (feature live)
+       oracle compare-budget [SEED [COUNT]]    (feature live)";
 
 fn main() -> ExitCode {
     let arguments: Vec<String> = std::env::args().skip(1).collect();
@@ -37,6 +38,11 @@ fn run(arguments: &[&str]) -> Result<ExitCode, String> {
         ["compare-framing", rest @ ..] => {
             let (seed, count) = seed_and_count(rest, framing::compare::DEFAULTS)?;
             framing::compare::run(seed, count)
+        }
+        #[cfg(feature = "live")]
+        ["compare-budget", rest @ ..] => {
+            let (seed, count) = seed_and_count(rest, budget::compare::DEFAULTS)?;
+            budget::compare::run(seed, count)
         }
         _ => Err(USAGE.to_string()),
     }

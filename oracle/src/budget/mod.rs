@@ -4,3 +4,8 @@ pub mod call;
 mod generator;
 mod original;
 pub mod record;
+
+#[cfg(feature = "live")]
+pub mod compare;
+#[cfg(feature = "live")]
+mod exhaustive;

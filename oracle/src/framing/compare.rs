@@ -3,9 +3,10 @@
 use super::answer::{Answer, original_answer};
 use super::case::{Case, Reading};
 use super::generator::{Share, Sizes, random_case};
+use super::record::recorded_cases;
 use super::{exhaustive, giants};
 use crate::numbers::{DONE, MAX_BODY, MAX_WIDTHS, NO_RECORDS, TOO_LARGE};
-use crate::port;
+use crate::port::{self, UNTOUCHED, shown};
 use crate::random::Random;
 use std::collections::BTreeMap;
 use std::process::ExitCode;
@@ -14,9 +15,6 @@ use std::process::ExitCode;
 pub const DEFAULTS: (u64, u64) = (1, 3_000_000);
 
 const SHOWN: u64 = 10;
-
-/// Written before each call: a refusal must leave it.
-const UNTOUCHED: [u64; 3] = [0x5EED_0001, 0x5EED_0002, 0x5EED_0003];
 
 const SIZES: Sizes = Sizes {
     widths: &[
@@ -46,6 +44,12 @@ pub fn run(seed: u64, count: u64) -> Result<ExitCode, String> {
     exhaustive::for_each_case(|case| small.compare(case));
     small.print("exhaustive part");
 
+    let mut recorded = Comparison::default();
+    for case in recorded_cases().cases() {
+        recorded.compare(case);
+    }
+    recorded.print("recorded cases");
+
     let mut large = Comparison::default();
     giants::for_each_case(|case| large.compare(case));
     large.print("largest sizes");
@@ -57,8 +61,9 @@ pub fn run(seed: u64, count: u64) -> Result<ExitCode, String> {
     }
     generated.print(&format!("generated part, seed {seed}"));
 
-    let differences = small.differences + large.differences + generated.differences;
-    Ok(ExitCode::from(u8::from(differences != 0)))
+    let parts = [small, recorded, large, generated];
+    let same = parts.iter().all(|part| part.differences == 0);
+    Ok(if same { ExitCode::SUCCESS } else { ExitCode::FAILURE })
 }
 
 /// The original's answer, but where document 01 departs from it: 9 and 12 come first.
@@ -85,7 +90,7 @@ impl Comparison {
         let expected = document_answer(case);
         let expected_cost = if expected.number == DONE { expected.cost } else { UNTOUCHED };
         let mut cost = UNTOUCHED;
-        let number = port::preflight(case, &mut cost);
+        let number = port::framing::preflight(case, &mut cost);
 
         self.inputs += 1;
         *self.answers.entry((case.reading as u8, expected.number)).or_default() += 1;
@@ -93,8 +98,8 @@ impl Comparison {
             self.differences += 1;
             if self.differences <= SHOWN {
                 println!("difference: {}", short_row(case));
-                println!("  expected {}", shown(expected.number, expected_cost));
-                println!("  port     {}", shown(number, cost));
+                println!("  expected {}: {}", expected.number, shown(expected_cost));
+                println!("  port     {number}: {}", shown(cost));
             }
         }
     }
@@ -107,14 +112,6 @@ impl Comparison {
                 answers.map(|((_, number), count)| format!("{number}: {count}")).collect();
             println!("  {reading:?} {}", answers.join(", "));
         }
-    }
-}
-
-fn shown(number: u32, cost: [u64; 3]) -> String {
-    if cost == UNTOUCHED {
-        format!("{number}, cost untouched")
-    } else {
-        format!("{number}, cost {cost:?}")
     }
 }
 

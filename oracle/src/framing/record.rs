@@ -1,9 +1,11 @@
 //! Command `record-framing`: the fixed list of cases with the original's answers.
 
+use super::answer::original_answer;
 use super::case::Reading;
 use super::case_list::{CaseList, ROW_BODY, ROW_WIDTHS};
 use super::families;
 use super::generator::{Share, Sizes, random_case};
+use crate::numbers::DONE;
 use crate::random::Random;
 use std::process::ExitCode;
 
@@ -30,19 +32,32 @@ const SIZES: Sizes = Sizes {
 };
 
 pub fn run(file: &str) -> Result<ExitCode, String> {
-    let mut list = CaseList::default();
-    families::add_all(&mut list);
-    println!("{} rows by rule, {} bytes", list.len(), list.bytes());
-    let mut random = Random::new(SEED);
-    while list.len() < ROWS {
-        list.add_case(&random_case(&mut random, &SIZES));
+    let mut text = String::new();
+    // Per reading: cases with a cost, cases refused.
+    let mut counts = [[0; 2]; 3];
+    let list = recorded_cases();
+    for case in list.cases() {
+        let answer = original_answer(case);
+        text.push_str(&format!("{} {}\n", case.row(), answer.row()));
+        counts[case.reading as usize][usize::from(answer.number != DONE)] += 1;
     }
-    assert!(list.bytes() < LARGEST_FILE, "the list has {} bytes", list.bytes());
-    std::fs::write(file, list.text()).map_err(|error| format!("{file}: {error}"))?;
-    println!("{} rows in all, {} bytes", list.len(), list.bytes());
+    assert!(text.len() < LARGEST_FILE, "the list has {} bytes", text.len());
+    std::fs::write(file, &text).map_err(|error| format!("{file}: {error}"))?;
+    println!("{} rows, {} bytes", list.cases().len(), text.len());
     for reading in Reading::ALL {
-        let [measured, refused] = list.counts()[reading as usize];
+        let [measured, refused] = counts[reading as usize];
         println!("{reading:?}: {measured} with a cost, {refused} refused with 7");
     }
     Ok(ExitCode::SUCCESS)
+}
+
+/// The families, then cases by chance up to the number of rows.
+pub fn recorded_cases() -> CaseList {
+    let mut list = CaseList::default();
+    families::add_all(&mut list);
+    let mut random = Random::new(SEED);
+    while list.cases().len() < ROWS {
+        list.add_case(random_case(&mut random, &SIZES));
+    }
+    list
 }

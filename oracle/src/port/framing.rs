@@ -1,33 +1,9 @@
-//! The ported functions, as libnetflow_pending.a has them. Every foreign name stands here.
+//! The ported preflight.
 
+use super::functions::{
+    netflow_preflight_ipfix_fixed, netflow_preflight_ipfix_variable, netflow_preflight_v9_fixed,
+};
 use crate::framing::case::{Case, Reading};
-
-unsafe extern "C" {
-    fn netflow_preflight_v9_fixed(
-        body: *const u8,
-        body_len: usize,
-        widths: *const u16,
-        widths_len: usize,
-        max_records: u64,
-        cost: *mut u64,
-    ) -> u32;
-    fn netflow_preflight_ipfix_fixed(
-        body: *const u8,
-        body_len: usize,
-        widths: *const u16,
-        widths_len: usize,
-        max_records: u64,
-        cost: *mut u64,
-    ) -> u32;
-    fn netflow_preflight_ipfix_variable(
-        body: *const u8,
-        body_len: usize,
-        widths: *const u16,
-        widths_len: usize,
-        max_records: u64,
-        cost: *mut u64,
-    ) -> u32;
-}
 
 /// Answers the number; the cost is written when that is 0.
 pub fn preflight(case: &Case, cost: &mut [u64; 3]) -> u32 {
