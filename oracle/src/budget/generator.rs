@@ -77,7 +77,7 @@ impl Generator<'_> {
             // Around where the sum of use and amount leaves 64 bits.
             16 => (u64::MAX - used).saturating_add(self.random.below(2)),
             17 => u64::MAX - self.random.below(2),
-            18 => self.random.below(limit.saturating_add(1).max(1)),
+            18 => self.random.below(limit.saturating_add(1)),
             _ => self.random.below(30),
         }
     }
@@ -103,7 +103,7 @@ impl Generator<'_> {
             0 => 0,
             1 => bound,
             2 => bound.saturating_sub(1),
-            _ => self.random.below(bound.saturating_add(1).max(1)),
+            _ => self.random.below(bound.saturating_add(1)),
         }
     }
 
