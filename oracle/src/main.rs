@@ -1,0 +1,61 @@
+//! Runs the original Rust text beside what was ported from it. README.md has the commands.
+
+mod budget;
+mod framing;
+mod numbers;
+#[cfg(feature = "live")]
+mod port;
+mod random;
+mod variable_versions;
+
+use std::process::ExitCode;
+// The original text names these two at the root of its crate.
+use variable_versions::config::{ConfigError, DEFAULT_MAX_RECORDS_PER_FLOWSET};
+
+const USAGE: &str = "\
+usage: oracle record-framing FILE
+       oracle record-budget FILE
+       oracle compare-framing [SEED [COUNT]]   (feature live)
+       oracle compare-budget [SEED [COUNT]]    (feature live)";
+
+fn main() -> ExitCode {
+    let arguments: Vec<String> = std::env::args().skip(1).collect();
+    let arguments: Vec<&str> = arguments.iter().map(String::as_str).collect();
+    match run(&arguments) {
+        Ok(code) => code,
+        Err(message) => {
+            eprintln!("{message}");
+            ExitCode::FAILURE
+        }
+    }
+}
+
+fn run(arguments: &[&str]) -> Result<ExitCode, String> {
+    match arguments {
+        ["record-framing", file] => framing::record::run(file),
+        ["record-budget", file] => budget::record::run(file),
+        #[cfg(feature = "live")]
+        ["compare-framing", rest @ ..] => {
+            let (seed, count) = seed_and_count(rest, framing::compare::DEFAULTS)?;
+            framing::compare::run(seed, count)
+        }
+        #[cfg(feature = "live")]
+        ["compare-budget", rest @ ..] => {
+            let (seed, count) = seed_and_count(rest, budget::compare::DEFAULTS)?;
+            budget::compare::run(seed, count)
+        }
+        _ => Err(USAGE.to_string()),
+    }
+}
+
+/// What the command line gives of the two, else the defaults.
+#[cfg(feature = "live")]
+fn seed_and_count(given: &[&str], defaults: (u64, u64)) -> Result<(u64, u64), String> {
+    let number = |text: &str| text.parse().map_err(|_| format!("not a number: {text}"));
+    match given {
+        [] => Ok(defaults),
+        [seed] => Ok((number(seed)?, defaults.1)),
+        [seed, count] => Ok((number(seed)?, number(count)?)),
+        _ => Err(USAGE.to_string()),
+    }
+}

@@ -1,0 +1,3 @@
+//! The original `wire.rs`.
+
+include!(concat!(env!("OUT_DIR"), "/wire.rs"));
