@@ -11,7 +11,7 @@ ghost use Prim.Native.Nat.{_≤_, _<_};
 ghost use lib.ListN.{length};
 ghost use Rattle.wire.specs.Size.{leastSize};
 ghost use Rattle.output_preflight.specs.Scan.{scanOf};
-ghost use Rattle.output_preflight.specs.Preflight.{answerOf, judged, preflightOf};
+ghost use Rattle.output_preflight.specs.Preflight.{numberOf, answerOf, judged, preflightOf};
 use wire::Reading;
 
 // A count of decoded field values.
@@ -40,6 +40,17 @@ pub enum Refusal {
 pub enum PreflightAnswer {
     Valid(PendingOutputPreflight),
     Refused(Refusal),
+}
+
+// Document 01's number of a refusal.
+pub fn refusal_number(refusal: Refusal) -> u32
+    ensures { λ r. ⌜ r ≡ numberOf refusal ⌝ }
+{
+    match refusal {
+        Refusal::ZeroRecordLimit => 9,
+        Refusal::Oversized => 12,
+        Refusal::Invalid => 7,
+    }
 }
 
 // The longest body of a data set: a 16-bit length, less the 4-byte header.

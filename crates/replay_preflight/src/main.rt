@@ -2,7 +2,6 @@
 //     reading max_records n w1 .. wn m b1 .. bm number values payload remainder
 // with reading 0 (v9 fixed), 1 (IPFIX fixed) or 2 (IPFIX variable), and 0 for what a refusal does not give.
 use output_preflight::PreflightAnswer;
-use output_preflight::Refusal;
 use recorded::BUFFERS;
 use recorded::Tally;
 use recorded::fill;
@@ -50,14 +49,6 @@ fn reading_of(n: u64) -> Reading {
     }
 }
 
-fn number_of(refusal: Refusal) -> u64 {
-    match refusal {
-        Refusal::ZeroRecordLimit => 9,
-        Refusal::Oversized => 12,
-        Refusal::Invalid => 7,
-    }
-}
-
 fn figures_of(answer: PreflightAnswer) -> Figures {
     match answer {
         PreflightAnswer::Valid(cost) => {
@@ -72,7 +63,7 @@ fn figures_of(answer: PreflightAnswer) -> Figures {
             }
         }
         PreflightAnswer::Refused(refusal) => Figures {
-            number: number_of(refusal),
+            number: output_preflight::refusal_number(refusal) as u64,
             values: 0,
             payload: 0,
             remainder: 0,
