@@ -116,23 +116,33 @@ no-field-passed bytes ws r =
 
 module _ {bytes ws : List ℕ} {r : Reading} {at paid i : ℕ} (inv : FieldsPassed bytes ws r at paid i) where
   -- the field that is called for stands at the front of the rest
-  at-front : {x : Span} → x ≡ fieldOf (take (length bytes - at) (drop at bytes)) (getD ws i 0) r → fieldOf (drop at bytes) (getD ws i 0) r ≡ x
+  at-front : {x : Span} → x ≡ fieldOf (take (length bytes - at) (drop at bytes)) (getD ws i 0) r →
+      fieldOf (drop at bytes) (getD ws i 0) r ≡ x
   at-front e = ap (λ (s : List ℕ). fieldOf s (getD ws i 0) r) (sym (tail-is-drop at bytes)) ∙ sym e
 
   next-field : {s n : ℕ} → i < length ws → fieldOf (drop at bytes) (getD ws i 0) r ≡ Whole s n →
-      behind at paid (fieldsOf (drop at bytes) (drop i ws) r) ≡ behind (at + s) (paid + n) (fieldsOf (drop (at + s) bytes) (drop (i + 1) ws) r)
+      behind at paid (fieldsOf (drop at bytes) (drop i ws) r)
+      ≡ behind (at + s) (paid + n) (fieldsOf (drop (at + s) bytes) (drop (i + 1) ws) r)
   unfolding fieldsOf
   next-field {s} {n} h e = rw (add-one, drop-cons ws i 0, e, drop-drop s at bytes, behind-behind)
 
-  pub field-passed : {x : Span} {s n : ℕ} → i < length ws → x ≡ fieldOf (take (length bytes - at) (drop at bytes)) (getD ws i 0) r →
+  pub field-passed : {x : Span} {s n : ℕ} → i < length ws →
+      x ≡ fieldOf (take (length bytes - at) (drop at bytes)) (getD ws i 0) r →
       x ≡ Whole s n → FieldsPassed bytes ws r (at + s) (paid + n) (i + 1)
   field-passed h e f =
       let whole = at-front e ∙ f in
       let g = rw whole at (field-within (drop at bytes) (getD ws i 0) r) in
       let d = length-drop at bytes in
-      record { passed = omega arith; inside = omega arith; content = omega arith; left = inv .left ∙ next-field h whole }
+      record {
+        passed = omega arith;
+        inside = omega arith;
+        content = omega arith;
+        left = inv .left
+            ∙ next-field h whole;
+      }
 
-  pub field-cut : {x : Span} → i < length ws → x ≡ fieldOf (take (length bytes - at) (drop at bytes)) (getD ws i 0) r →
+  pub field-cut : {x : Span} → i < length ws → x ≡ fieldOf (take (length bytes - at) (drop at bytes))
+      (getD ws i 0) r →
       x ≡ Cut → fieldsOf bytes ws r ≡ Cut
   unfolding fieldsOf
   field-cut h e f = let cut = at-front e ∙ f in inv .left ∙ rw (drop-cons ws i 0, cut)

@@ -15,16 +15,19 @@ use Rattle.output_preflight.specs.declared.scan.Span.the-variants.{Whole
 use Rattle.output_preflight.specs.declared.scan.Scanned.{Scanned}
 use Rattle.output_preflight.specs.Field.{fieldOf}
 use Rattle.output_preflight.specs.Scan.{followedBy, fieldsOf, recordOf, scanOf, fixedScanOf}
-use Rattle.output_preflight.proofs.Records.{same-figures, takes-some, cut-field, scan-none, scan-cut, scan-whole}
+use Rattle.output_preflight.proofs.Records.{same-figures, takes-some, cut-field, scan-none, scan-cut}
+use Rattle.output_preflight.proofs.Records.{scan-whole}
 
 module _ (r : Reading) (plain : (w : ℕ) → isVariable w r ≡ false) where
-  fields-whole : (s ws : List ℕ) → leastSize ws r ≤ length s → fieldsOf s ws r ≡ Whole (leastSize ws r) (leastSize ws r)
+  fields-whole : (s ws : List ℕ) → leastSize ws r ≤ length s →
+      fieldsOf s ws r ≡ Whole (leastSize ws r) (leastSize ws r)
   unfolding leastSize fieldsOf fieldOf
   fields-whole s [] h = refl
   fields-whole s (w ∷ ws) h =
       let g : w + leastSize ws r ≤ length s = rw (plain w) at h in
       let k : leastSize ws r ≤ length (drop (0 + w) s) = omega (arith, length-drop (0 + w) s) in
-      rw (plain w, le-leb (0 + w) (length s) (omega arith), fields-whole (drop (0 + w) s) ws k) (ap₂ Whole (omega arith) refl)
+      rw (plain w, le-leb (0 + w) (length s) (omega arith), fields-whole (drop (0 + w) s) ws k) (ap₂ Whole
+      (omega arith) refl)
 
   fields-cut : (s ws : List ℕ) → length s < leastSize ws r → fieldsOf s ws r ≡ Cut
   unfolding leastSize fieldsOf fieldOf
@@ -34,30 +37,39 @@ module _ (r : Reading) (plain : (w : ℕ) → isVariable w r ≡ false) where
       short : length s < w + leastSize ws r
       short = rw (plain w) at h
 
-      by-test : (b : Bool) → leb (0 + w) (length s) ≡ b → (length (drop (0 + w) s) < leastSize ws r → fieldsOf (drop (0 + w) s) ws r ≡ Cut) →
+      by-test : (b : Bool) → leb (0 + w) (length s) ≡ b → (length (drop (0 + w) s) < leastSize ws r →
+          fieldsOf (drop (0 + w) s) ws r ≡ Cut) →
           followedBy (cond b (Whole (0 + w) w) Cut) (λ a. fieldsOf (drop a s) ws r) ≡ Cut
       by-test true e ih = rw (ih (omega (arith, short, leb-true (0 + w) (length s) e, length-drop (0 + w) s)))
       by-test false e ih = refl
 
   module _ (ws : List ℕ) (some : 0 < leastSize ws r) where
-    record-whole : (s : List ℕ) → leastSize ws r ≤ length s → recordOf s ws r ≡ Whole (leastSize ws r) (leastSize ws r)
+    record-whole : (s : List ℕ) → leastSize ws r ≤ length s →
+        recordOf s ws r ≡ Whole (leastSize ws r) (leastSize ws r)
     record-whole s h = takes-some s ws r (fields-whole s ws h) (λ e. omega arith)
 
     -- q records, if so many fit, and no more do or no more may
-    scan-equal-records : (q k : ℕ) (s : List ℕ) → q ≤ k → q * leastSize ws r ≤ length s → (q < k → length s < q * leastSize ws r + leastSize ws r) →
+    scan-equal-records : (q k : ℕ) (s : List ℕ) → q ≤ k → q * leastSize ws r ≤ length s → (q < k →
+        length s < q * leastSize ws r + leastSize ws r) →
         scanOf s ws r k ≡ record { records = q; payload = q * leastSize ws r; remainder = length s - q * leastSize ws r }
     scan-equal-records zero zero s h l m = scan-none s ws r ∙ same-figures refl (omega arith) (omega arith)
     scan-equal-records zero (suc k) s h l m =
-        scan-cut s ws r k (cut-field s ws r (fields-cut s ws (omega (arith, m (omega arith))))) ∙ same-figures refl (omega arith) (omega arith)
+        scan-cut s ws r k (cut-field s ws r (fields-cut s ws (omega (arith, m (omega arith)))))
+        ∙ same-figures refl (omega arith) (omega arith)
     scan-equal-records (suc q) zero s h l m = absurd (omega arith)
     scan-equal-records (suc q) (suc k) s h l m =
         let e = suc-mul q (leastSize ws r) in
         let d = length-drop (leastSize ws r) s in
         scan-whole s ws r k (record-whole s (omega arith))
-        ∙ rw (scan-equal-records q k (drop (leastSize ws r) s) (omega arith) (omega arith) (λ t. omega (arith, m (omega arith))))
+        ∙ rw (scan-equal-records q k (drop (leastSize ws r) s) (omega arith) (omega arith) (λ t. omega (
+          arith,
+          m
+              (omega arith),
+        )))
         (same-figures (omega arith) (omega arith) (omega arith))
 
-    pub fixed-scan : (body : List ℕ) (limit : ℕ) → scanOf body ws r limit ≡ fixedScanOf (length body) (leastSize ws r) limit
+    pub fixed-scan : (body : List ℕ) (limit : ℕ) → scanOf body ws r limit ≡ fixedScanOf (length body)
+        (leastSize ws r) limit
     fixed-scan body limit =
         let d = leastSize ws r in
         let n = length body / d in

@@ -33,7 +33,12 @@ module _ (body ws : List ℕ) (r : Reading) (limit : ℕ) where
       pub many-widths : 65535 < length ws → number 12 ≡ preflightOf body ws r limit
       unfolding preflightOf
       many-widths h =
-          rw (lt-ltb 0 limit (pos-of-ne-zero some-limit), le-leb (length body) 65531 short-body, lt-leb (length ws) 65535 h)
+          rw (
+            lt-ltb 0 limit (pos-of-ne-zero some-limit),
+            le-leb (length body) 65531 short-body,
+            lt-leb
+                (length ws) 65535 h,
+          )
 
       module _ (few-widths : length ws ≤ 65535) where
         pub no-size : {least : ℕ} → least ≡ leastSize ws r → least ≡ 0 → number 7 ≡ preflightOf body ws r limit

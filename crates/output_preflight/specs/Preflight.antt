@@ -33,7 +33,8 @@ answerOf (Refused n) = number (numberOf n)
 -- a scan of records with so many fields: records × fields, the payload, the remainder; 7 where the body is not complete
 abbrev pub judged : Scanned → ℕ → ℕ → Reading → Answer
 judged x fields least r =
-    cond (isComplete (x .records) (x .remainder) least r) (cost (x .records * fields) (x .payload) (x .remainder)) (number 7)
+    cond (isComplete (x .records) (x .remainder) least r) (cost (x .records * fields) (x .payload) (x .remainder))
+    (number 7)
 
 -- valid needs at least one width and a nonzero least size, besides a complete body
 abbrev pub framed : List ℕ → List ℕ → Reading → ℕ → Answer

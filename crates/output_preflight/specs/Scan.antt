@@ -48,7 +48,8 @@ recordThen at Cut next = []
 -- the whole records of the bytes that stand at a place, at most so many: the scan stops before a record that is cut
 unfoldable pub recordsFrom : ℕ → List ℕ → List ℕ → Reading → ℕ → List RecordSpan
 recordsFrom at bytes ws r zero = []
-recordsFrom at bytes ws r (suc k) = recordThen at (recordOf bytes ws r) (λ s. recordsFrom (at + s) (drop s bytes) ws r k)
+recordsFrom at bytes ws r (suc k) = recordThen at (recordOf bytes ws r) (λ s. recordsFrom (at + s)
+    (drop s bytes) ws r k)
 
 abbrev pub recordsOf : List ℕ → List ℕ → Reading → ℕ → List RecordSpan
 recordsOf body ws r limit = recordsFrom 0 body ws r limit

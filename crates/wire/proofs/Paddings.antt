@@ -12,6 +12,7 @@ module _ (records remainder least : ℕ) (r : Reading) where
   unfolding isComplete
   no-record h = rw (le-ltb 0 records (le-of-eq h))
 
-  pub some-record : {v : Bool} → (records ≡ 0 → ⊥) → v ≡ isPadding remainder least r → v ≡ isComplete records remainder least r
+  pub some-record : {v : Bool} → (records ≡ 0 → ⊥) → v ≡ isPadding remainder least r →
+      v ≡ isComplete records remainder least r
   unfolding isComplete
   some-record h e = rw (lt-ltb 0 records (pos-of-ne-zero h)) e

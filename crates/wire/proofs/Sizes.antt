@@ -34,11 +34,13 @@ pub summed-none : (ws : List ℕ) (r : Reading) → Summed ws r 0 0
 summed-none ws r = record { passed = omega arith; small = omega arith; left = omega arith }
 
 module _ {ws : List ℕ} {r : Reading} {i sum : ℕ} (inv : Summed ws r i sum) where
-  next-field : i < length ws → leastSize (drop i ws) r ≡ leastFieldSize (getD ws i 0) r + leastSize (drop (i + 1) ws) r
+  next-field : i < length ws → leastSize (drop i ws) r
+      ≡ leastFieldSize (getD ws i 0) r + leastSize (drop (i + 1) ws) r
   unfolding leastSize
   next-field h = rw (add-one, drop-cons ws i 0)
 
-  pub summed-more : {n : ℕ} → i < length ws → getD ws i 0 < 65536 → n ≡ leastFieldSize (getD ws i 0) r → Summed ws r (i + 1) (sum + n)
+  pub summed-more : {n : ℕ} → i < length ws → getD ws i 0 < 65536 → n ≡ leastFieldSize (getD ws i 0) r →
+      Summed ws r (i + 1) (sum + n)
   summed-more h w e =
       let b = least-field-bound (getD ws i 0) r w in
       let f = next-field h in

@@ -22,11 +22,13 @@ scan-variable-body-requires : tie.Need-scan-variable-body-requires
 scan-variable-body-requires c κs = search needs
 
 returns : tie.Need-returns
-returns c = by-division _ (λ w. rw (c .before .enum-told .given .1)) _ _ _ _ _ (c .before .before .before .before .before .pre .0)
+returns c = by-division _ (λ w. rw (c .before .enum-told .given .1)) _ _ _ _ _
+    (c .before .before .before .before .before .pre .0)
     (c .before .before .before .before .before .pre .1) (c .scan-fixed-body .ensures)
 
 returns-2 : tie.Need-returns-2
-returns-2 c = by-division _ (λ w. rw (c .before .enum-told2 .given .1)) _ _ _ _ _ (c .before .before .before .before .before .pre .0)
+returns-2 c = by-division _ (λ w. rw (c .before .enum-told2 .given .1)) _ _ _ _ _
+    (c .before .before .before .before .before .pre .0)
     (c .before .before .before .before .before .pre .1) (c .scan-fixed-body2 .ensures)
 
 returns-3 : tie.Need-returns-3

@@ -25,13 +25,16 @@ is-short-padding-requires-2 : tie.Need-is-short-padding-requires-2
 is-short-padding-requires-2 c κs = search needs
 
 returns-2 : tie.Need-returns-2
-returns-2 c = some-record _ _ _ _ (c .before .before .before .if1 .left) (rw (c .before .enum-told .given .1) (c .is-v9-padding .ensures))
+returns-2 c = some-record _ _ _ _ (c .before .before .before .if1 .left) (rw (c .before .enum-told .given .1)
+    (c .is-v9-padding .ensures))
 
 returns-3 : tie.Need-returns-3
-returns-3 c = some-record _ _ _ _ (c .before .before .before .if1 .left) (rw (c .before .enum-told2 .given .1) (c .is-short-padding .ensures))
+returns-3 c = some-record _ _ _ _ (c .before .before .before .if1 .left) (rw (c .before .enum-told2 .given .1)
+    (c .is-short-padding .ensures))
 
 returns-4 : tie.Need-returns-4
-returns-4 c = some-record _ _ _ _ (c .before .before .before .if1 .left) (rw (c .before .enum-told3 .given .1) (c .is-short-padding2 .ensures))
+returns-4 c = some-record _ _ _ _ (c .before .before .before .if1 .left) (rw (c .before .enum-told3 .given .1)
+    (c .is-short-padding2 .ensures))
 
 pub record-body-is-complete-spec : {M : Type 1} → statement M
 record-body-is-complete-spec =

@@ -11,10 +11,12 @@ div-records : tie.Need-div-records
 div-records c = search needs
 
 -- as many as fit, at most the limit
-fewest : (c : tie.After-row-known) → c .before .if1 .records ≡ min (c .before .before .args .body-len / c .before .before .args .record-size) (c .before .before .args .max-records)
+fewest : (c : tie.After-row-known) → c .before .if1 .records ≡ min
+    (c .before .before .args .body-len / c .before .before .args .record-size) (c .before .before .args .max-records)
 fewest c = ⊎-elim (λ w. omega arith) (λ w. omega arith) (c .before .if1 .came)
 
-fits-within : (c : tie.After-row-known) → c .before .if1 .records * c .before .before .args .record-size ≤ c .before .before .args .body-len
+fits-within : (c : tie.After-row-known) →
+    c .before .if1 .records * c .before .before .args .record-size ≤ c .before .before .args .body-len
 fits-within c = rw (fewest c) (le-trans (mul-le-mul-right _ (min-le-left _ _)) (div-mul-le-self _ _))
 
 mul-consumed : tie.Need-mul-consumed

@@ -5,7 +5,8 @@ use borrow.Author.Needs.{needs}
 use lib.ListN.{length}
 use Rattle.wire.specs.declared.Reading.the-variants.{IpfixVariable}
 use Rattle.output_preflight.proofs.Fields.{FieldsPassed, no-field-passed, field-passed, field-cut, all-passed}
-use Rattle.output_preflight.proofs.Records.{takes-nothing, takes-some, cut-field, RecordsPassed, no-record-passed, record-passed, stopped, at-limit}
+use Rattle.output_preflight.proofs.Records.{takes-nothing, takes-some, cut-field, RecordsPassed}
+use Rattle.output_preflight.proofs.Records.{no-record-passed, record-passed, stopped, at-limit}
 use Rattle.output_preflight.proofs.scan.scan_variable_body.Statement.{statement}
 use Rattle.output_preflight.proofs.scan.scan_variable_body.Tie as tie
 
@@ -98,7 +99,8 @@ returns-2 c = sym (search (stopped, cut-field, field-cut, needs))
 returns-3 : tie.Need-returns-3 Inv-fields μ-fields Inv-records μ-records
 returns-3 c = sym
     (stopped (c .before .before .before .before .records .inv) (c .before .before .before .records-test .taken)
-    (takes-nothing _ _ _ (all-passed (c .before .before .fields .inv) (c .before .fields-test .left)) (c .if1 .taken)))
+    (takes-nothing _ _ _ (all-passed (c .before .before .fields .inv) (c .before .fields-test .left))
+    (c .if1 .taken)))
 
 pub scan-variable-body-spec : {M : Type 1} → statement M
 scan-variable-body-spec =

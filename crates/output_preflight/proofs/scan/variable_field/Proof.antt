@@ -45,7 +45,8 @@ span-of-requires-2 : tie.Need-span-of-requires-2
 span-of-requires-2 c κs = omega (arith, c .shared-slice-known4 .given 1, c .shared-slice-known4 .given 2)
 
 returns-4 : tie.Need-returns-4
-returns-4 c = c .span-of2 .ensures ∙ sym (long-prefix _ (omega arith) (c .before .before .before .before .if2 .left) (omega arith))
+returns-4 c = c .span-of2 .ensures ∙ sym (long-prefix _ (omega arith) (c .before .before .before .before .if2 .left)
+    (omega arith))
 
 pub variable-field-spec : {M : Type 1} → statement M
 variable-field-spec =
