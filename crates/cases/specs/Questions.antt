@@ -3,15 +3,25 @@ use mathlib.Core.List.{List, [], _∷_}
 use Prim.Native.Nat.{ℕ}
 use Rattle.wire.specs.declared.Reading.{Reading}
 use Rattle.output_preflight.specs.Preflight.{Answer, cost, number, preflightOf}
+use Rattle.config.specs.declared.PendingFlowsConfig.{PendingFlowsConfig}
+use Rattle.cache_model.specs.History.{Call}
+use Rattle.cache_model.specs.Told.{answersTo, heldAfter}
 
 pub data Question : Type 0 where
   -- the preflight of a body: its bytes, the widths, the reading, the record limit
   preflight : List ℕ → List ℕ → Reading → ℕ → Question
+  -- calls on a newly opened cache: each one's answer
+  calls : PendingFlowsConfig → List Call → Question
+  -- the same: id and body lengths of each held template afterwards, least recent first
+  held : PendingFlowsConfig → List Call → Question
 
 -- 0, field values, payload bytes, remainder; or the number of the refusal
 abbrev pub preflightTold : Answer → List ℕ
 preflightTold (cost v p m) = 0 ∷ v ∷ p ∷ m ∷ []
 preflightTold (number n) = n ∷ []
 
-abbrev pub told : Question → List ℕ
-told (preflight body ws r limit) = preflightTold (preflightOf body ws r limit)
+-- one answer, or one for each call or template
+abbrev pub told : Question → List (List ℕ)
+told (preflight body ws r limit) = preflightTold (preflightOf body ws r limit) ∷ []
+told (calls l cs) = answersTo l cs
+told (held l cs) = heldAfter l cs

@@ -1,0 +1,9 @@
+pub mod Bodies
+pub mod Removal
+pub mod Cache
+pub mod Offer
+pub mod Calls
+pub mod Queries
+pub mod History
+pub mod Told
+pub mod Tests
