@@ -48,7 +48,8 @@ mayPutBack i n c = eqb i (c .chance .id) && leb n (length (c .chance .bodies))
 unfoldable pub putBack : ℕ → ℕ → Cache → Outcome
 putBack i n c =
     cond (eqb n 0) (record { answer = done; cache = c })
-    (cond (mayPutBack i n c) (record { answer = done; cache = restored i n c }) (record { answer = number 25; cache = c }))
+    (cond (mayPutBack i n c) (record { answer = done; cache = restored i n c })
+    (record { answer = number 25; cache = c }))
 
 -- resize: "evicts least recent templates down to the new count, drops bodies over the new entry size, then oldest bodies
 -- beyond the new cap, then least recent templates until the total fits"

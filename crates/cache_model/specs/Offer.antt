@@ -52,7 +52,8 @@ module _ (l : PendingFlowsConfig) (old : Body → Bool) (i : ℕ) (b : Body) whe
   -- step 5: the id is not held: at max_pending_flows, "drop all expired bodies everywhere, emptied templates too"
   unfoldable pub step5 : Split → Offered
   step5 s =
-      cond (leb (l .«max_pending_flows») (length (s .held))) (addNewest (pruned (λ j x. not (old x)) s)) (accept i b s)
+      cond (leb (l .«max_pending_flows») (length (s .held))) (addNewest (pruned (λ j x. not (old x)) s))
+      (accept i b s)
 
   -- 4 or 5, by whether the id is held
   unfoldable pub step4or5 : List Body → Split → Offered

@@ -11,7 +11,8 @@ use Rattle.cache_model.specs.Cache.{Cache, Figures, Answer, number, show
 unfoldable pub wouldAccept : ℕ → ℕ → ℕ → Cache → Bool
 wouldAccept i n now c =
     leb n (c .limits .«max_entry_size_bytes») && (leb n (c .limits .«max_total_bytes») &&
-    ltb (length (keep (λ b. not (expired (c .limits .ttl) now b)) (bodiesOf i (c .held)))) (c .limits .«max_entries_per_template»))
+    ltb (length (keep (λ b. not (expired (c .limits .ttl) now b)) (bodiesOf i (c .held))))
+    (c .limits .«max_entries_per_template»))
 
 abbrev pub noBody : Body
 noBody = record { number = 0; bytes = []; clock = 0 }

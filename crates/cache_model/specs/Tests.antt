@@ -5,7 +5,8 @@ use Prim.Native.Nat.{ℕ}
 use Rattle.config.specs.declared.PendingFlowsConfig.{PendingFlowsConfig}
 use Rattle.config.specs.declared.Ttl.the-variants.{None, After}
 use Rattle.cache_model.specs.Removal.{evicted, evictions, pruned}
-use Rattle.cache_model.specs.Offer.{step2, step3, step4, step5, addNewest, step4or5, afterStep3, afterStep2, steps2to5}
+use Rattle.cache_model.specs.Offer.{step2, step3, step4, step5, addNewest, step4or5, afterStep3, afterStep2}
+use Rattle.cache_model.specs.Offer.{steps2to5}
 use Rattle.cache_model.specs.Offer.{appended, refusedSize, settled, offered}
 use Rattle.cache_model.specs.Queries.{wouldAccept}
 use Rattle.cache_model.specs.History.{Call, WouldAccept, does, after, answers}

@@ -12,7 +12,8 @@ use Rattle.output_preflight.specs.Preflight.{preflightOf}
 use Rattle.config.specs.declared.PendingFlowsConfig.{PendingFlowsConfig}
 use Rattle.config.specs.declared.Ttl.the-variants.{None, After}
 use Rattle.cache_model.specs.Removal.{evicted, evictions, pruned}
-use Rattle.cache_model.specs.Offer.{step2, step3, step4, step5, addNewest, step4or5, afterStep3, afterStep2, steps2to5}
+use Rattle.cache_model.specs.Offer.{step2, step3, step4, step5, addNewest, step4or5, afterStep3, afterStep2}
+use Rattle.cache_model.specs.Offer.{steps2to5}
 use Rattle.cache_model.specs.Offer.{appended, refusedSize, settled, offered}
 use Rattle.cache_model.specs.Calls.{drained}
 use Rattle.cache_model.specs.Queries.{wouldAccept, readHandedOut, figures as cacheFigures}
@@ -64,7 +65,11 @@ table =
     ∷ record { asks = preflight (zeros 16) (4 ∷ 4 ∷ []) V9Fixed 1; says = (7 ∷ []) ∷ [] }
     ∷ record { asks = preflight (zeros 16) (4 ∷ 4 ∷ []) IpfixFixed 1; says = (7 ∷ []) ∷ [] }
     ∷ record { asks = preflight abc (65535 ∷ 2 ∷ []) IpfixVariable many; says = (0 ∷ 2 ∷ 5 ∷ 0 ∷ []) ∷ [] }
-    ∷ record { asks = preflight (abc ++ zeros 3) (65535 ∷ 2 ∷ []) IpfixVariable many; says = (0 ∷ 4 ∷ 7 ∷ 0 ∷ []) ∷ [] }
+    ∷ record {
+      asks = preflight (abc ++ zeros 3) (65535 ∷ 2 ∷ []) IpfixVariable many;
+      says =
+          (0 ∷ 4 ∷ 7 ∷ 0 ∷ []) ∷ [];
+    }
     ∷ record { asks = preflight (abc ++ replicate 3 0xff) (65535 ∷ 2 ∷ []) IpfixVariable many; says = (7 ∷ []) ∷ [] }
     ∷ record { asks = held small upToEviction; says = (301 ∷ 8 ∷ []) ∷ (300 ∷ 4 ∷ []) ∷ [] }
     ∷ record {

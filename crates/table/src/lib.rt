@@ -1,0 +1,19 @@
+// The cache's table in the lent words: a header, entries for bodies, records for templates (docs/LAYOUT.md).
+
+// A body: its template's label, its place and length in the byte area, and the clock reading of its offer.
+pub struct Entry {
+    pub label: u64,
+    pub place: u64,
+    pub len: u64,
+    pub clock: u64,
+}
+
+// A template: its key (the id), its label, and how many bodies it has.
+pub struct TemplateRecord {
+    pub key: u64,
+    pub label: u64,
+    pub count: u64,
+}
+
+// Every label is below this.
+pub const LABELS: usize = 1024;
