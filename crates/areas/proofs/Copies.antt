@@ -38,4 +38,5 @@ module _ {to₀ from to : List ℕ} {i : ℕ} (inv : Copied to₀ from to i) whe
   unfolding overwritten
   all-copied h =
       let z : i ≡ length from = omega arith in
-      inv .now-is ∙ rw z (ap (λ (l : List ℕ). l ++ drop (length from) to₀) (take-all (length from) from (omega arith)))
+      inv .now-is ∙ rw z (ap (λ (l : List ℕ). l ++ drop (length from) to₀) (take-all (length from) from
+      (omega arith)))

@@ -1,8 +1,6 @@
 -- What opening promises.
 use mathlib.Core.Path.{_≡_}
-use mathlib.Core.List.{List}
 use mathlib.Core.Option.{some}
-use Prim.Native.Nat.{ℕ}
 use lib.ListN.{length, drop}
 use Rattle.config.specs.declared.PendingFlowsConfig.{PendingFlowsConfig}
 use Rattle.config.specs.declared.ConfigAnswer.{ConfigAnswer}

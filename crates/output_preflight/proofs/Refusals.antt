@@ -13,7 +13,7 @@ use Rattle.wire.specs.Size.{leastSize}
 use Rattle.wire.proofs.Sizes.{some-width}
 use Rattle.output_preflight.specs.declared.scan.Scanned.{Scanned}
 use Rattle.output_preflight.specs.Scan.{scanOf}
-use Rattle.output_preflight.specs.Preflight.{Answer, number, judged, preflightOf}
+use Rattle.output_preflight.specs.Preflight.{Answer, number, costOf, preflightOf}
 
 either-way : {A : Type 0} (b : Bool) (a : A) → a ≡ cond b a a
 either-way true a = refl
@@ -52,14 +52,14 @@ module _ (body ws : List ℕ) (r : Reading) (limit : ℕ) where
             )
             (either-way (ltb 0 (length ws)) (number 7))
 
-        pub judged-by-scan : {least : ℕ} {x : Scanned} {a : Answer} → least ≡ leastSize ws r → (least ≡ 0 → ⊥) →
-            x ≡ scanOf body ws r limit → a ≡ judged x (length ws) least r → a ≡ preflightOf body ws r limit
+        pub cost-by-scan : {least : ℕ} {x : Scanned} {a : Answer} → least ≡ leastSize ws r → (least ≡ 0 → ⊥) →
+            x ≡ scanOf body ws r limit → a ≡ costOf x (length ws) least r → a ≡ preflightOf body ws r limit
         unfolding preflightOf
-        judged-by-scan {x = x} e h f g =
+        cost-by-scan {x = x} e h f g =
             let sized : 0 < leastSize ws r = rw e at (pos-of-ne-zero h) in
             g
-            ∙ ap (λ (n : ℕ). judged x (length ws) n r) e
-            ∙ ap (λ (y : Scanned). judged y (length ws) (leastSize ws r) r) f
+            ∙ ap (λ (n : ℕ). costOf x (length ws) n r) e
+            ∙ ap (λ (y : Scanned). costOf y (length ws) (leastSize ws r) r) f
             ∙ rw (
               lt-ltb 0 limit (pos-of-ne-zero some-limit),
               le-leb (length body) 65531 short-body,

@@ -2,8 +2,8 @@ use mathlib.Core.Path.{sym, _∙_}
 use native.Mathlib.Omega.{arith}
 use native.Mathlib.Nat.{mul-le-mul}
 use borrow.Author.Needs.{needs}
-use Rattle.output_preflight.proofs.judge.Statement.{statement}
-use Rattle.output_preflight.proofs.judge.Tie as tie
+use Rattle.output_preflight.proofs.cost_of.Statement.{statement}
+use Rattle.output_preflight.proofs.cost_of.Tie as tie
 
 record-body-is-complete-requires : tie.Need-record-body-is-complete-requires
 record-body-is-complete-requires c κs = search needs
@@ -17,5 +17,5 @@ returns c = rw (sym (c .before .record-body-is-complete .ensures) ∙ c .if1 .ta
 returns-2 : tie.Need-returns-2
 returns-2 c = rw (sym (c .before .record-body-is-complete .ensures) ∙ c .if1 .left)
 
-pub judge-spec : {M : Type 1} → statement M
-judge-spec = tie.close (tie.spec record-body-is-complete-requires mul-t9 returns returns-2)
+pub cost-of-spec : {M : Type 1} → statement M
+cost-of-spec = tie.close (tie.spec record-body-is-complete-requires mul-t9 returns returns-2)
