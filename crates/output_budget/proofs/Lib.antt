@@ -1,0 +1,4 @@
+pub mod ZeroLimits
+pub mod Sums
+pub mod Reservations
+pub mod Rollbacks

@@ -1,0 +1,3 @@
+// Cumulative decoded-output accounting shared by NetFlow v9 and IPFIX (output_budget.rs).
+pub mod budget;
+pub mod limits;
