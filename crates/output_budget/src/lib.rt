@@ -1,3 +1,4 @@
 // Cumulative decoded-output accounting shared by NetFlow v9 and IPFIX (output_budget.rs).
 pub mod budget;
 pub mod limits;
+pub mod pending;
