@@ -5,3 +5,7 @@ pub mod Rollbacks
 pub mod Fits
 pub mod Reports
 pub mod Materials
+pub mod Loans
+pub mod Params
+pub mod Lend
+pub mod Loaned

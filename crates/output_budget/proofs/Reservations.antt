@@ -12,8 +12,8 @@ use Rattle.output_budget.specs.declared.budget.OutputBudgetExceeded.{Out
 use Rattle.output_budget.specs.declared.budget.Exceeded as Recorded
 use Rattle.output_budget.specs.declared.budget.ReserveOutcome.{ReserveOutcome}
 use Rattle.output_budget.specs.declared.budget.ReserveAnswer.the-variants.{Reserved, Exceeded}
-use Rattle.output_budget.specs.Budget.{usedValues, usedPayload, withUse, grown, firstExcess, recorded, attemptedSum}
-use Rattle.output_budget.specs.Budget.{passesValues, passesPayload, valuesExcess, payloadExcess}
+use Rattle.output_budget.specs.Budget.{usedValues, usedPayload, withUse, grown, firstExcess, recorded}
+use Rattle.output_budget.specs.Budget.{attemptedSum, passesValues, passesPayload, valuesExcess, payloadExcess}
 use Rattle.output_budget.specs.Budget.{SumsWithin, reserveTold, reserveBudget, Reserves}
 
 within : (most used more : ℕ) (t : Bool) → t ≡ ltb most (used + more) → t ≡ false → used + more ≤ max most used
@@ -28,7 +28,8 @@ pub first-recorded : (b b′ : DecodedOutputBudget) (e : OutputBudgetExceeded) (
     → _≡_ {A = ReserveOutcome} (record { answer = Exceeded e; budget = b′ }) (refused b e)
 first-recorded b b′ e x ex eb = cc
 
-module _ (b : DecodedOutputBudget) (v : FieldValues) (p : PayloadBytes) (t : Bool) (is-values : t ≡ passesValues b v) where
+module _ (b : DecodedOutputBudget) (v : FieldValues) (p : PayloadBytes)
+    (t : Bool) (is-values : t ≡ passesValues b v) where
   pub values-pass : (o : ReserveOutcome) (sum : ℕ) → t ≡ true → sum ≡ attemptedSum (usedValues b) (v .0)
       → o ≡ refused b (valuesExcess b sum) → Reserves b v p (o .answer) (o .budget)
   unfolding reserveTold reserveBudget

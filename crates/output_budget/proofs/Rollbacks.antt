@@ -1,5 +1,5 @@
 -- The three ends of a rollback, from its tests. Assumes nothing.
-use mathlib.Core.Path.{_≡_, refl}
+use mathlib.Core.Path.{_≡_}
 use Prim.Native.Nat.{_≤_, _<_}
 use borrow.Author.Tests.{lt-ltb, le-ltb}
 use Rattle.output_preflight.specs.declared.FieldValues.{FieldValues}

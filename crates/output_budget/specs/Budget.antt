@@ -88,7 +88,10 @@ limitOf Limit.FieldPayloadBytes = 2
 
 -- an excess tells the limit, the configured figure and the attempted sum
 abbrev pub toldOfExcess : OutputBudgetExceeded → Told
-toldOfExcess e = record { number = numberOf (e .limit); values = limitOf (e .limit) ∷ e .configured ∷ e .attempted ∷ [] }
+toldOfExcess e = record {
+  number = numberOf (e .limit);
+  values = limitOf (e .limit) ∷ e .configured ∷ e .attempted ∷ [];
+}
 
 -- what each answer of `take_exceeded` tells
 abbrev pub toldOfExceeded : Exceeded → Told
