@@ -9,3 +9,5 @@ pub mod Loans
 pub mod Params
 pub mod Lend
 pub mod Loaned
+pub mod Refusals
+pub mod Checkpoints

@@ -1,10 +1,10 @@
 -- The ends of materializing, from its tests. Assumes nothing.
 use mathlib.Core.Path.{_≡_, refl, sym, _∙_}
-use mathlib.Core.Bool.{Bool, true, false, not, _||_}
+use mathlib.Core.Bool.{Bool, true, false, _||_}
 use Prim.Native.Nat.{ℕ, _+_, _-_, _≤_, max}
 use native.Mathlib.Omega.{arith}
 use lib.Dec.{ltb}
-use borrow.Author.Tests.{ltb-false, not-true, not-false}
+use borrow.Author.Tests.{ltb-false}
 use Rattle.output_preflight.specs.declared.FieldValues.{FieldValues}
 use Rattle.output_preflight.specs.declared.PayloadBytes.{PayloadBytes}
 use Rattle.output_preflight.specs.declared.PendingOutputPreflight.{PendingOutputPreflight}
@@ -62,13 +62,13 @@ module _ (b : DecodedOutputBudget) (f : PreflightAnswer) (d : DecoderReport) whe
       does-not-fit o h eo = record { answer = cc; budget = cc }
 
       module _ (w : Bool) (fits-left : u ≡ false) (is-agreed : w ≡ agrees cost d) where
-        pub disagrees : (o : MaterializeOutcome) → not w ≡ true → o ≡ refused Error.Invalid
-            → Materializes b f d (o .answer) (o .budget)
-        unfolding materializeTold materializeBudget
-        disagrees o h eo = let k = not-true w h in record { answer = cc; budget = cc }
-
-        pub commits : (b′ : DecodedOutputBudget) → not w ≡ false
+        pub commits : (b′ : DecodedOutputBudget) → w ≡ true
             → b′ ≡ grown b (cost .«field_values») (cost .«field_payload_bytes»)
             → Materializes b f d (Materialized (cost .«remainder_len»)) b′
         unfolding materializeTold materializeBudget
-        commits b′ h eb = let k = not-false w h in record { answer = cc; budget = cc }
+        commits b′ h eb = record { answer = cc; budget = cc }
+
+        pub disagrees : (o : MaterializeOutcome) → w ≡ false → o ≡ refused Error.Invalid
+            → Materializes b f d (o .answer) (o .budget)
+        unfolding materializeTold materializeBudget
+        disagrees o h eo = record { answer = cc; budget = cc }

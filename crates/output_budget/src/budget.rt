@@ -26,6 +26,7 @@ pub enum Exceeded {
     Recorded(OutputBudgetExceeded),
 }
 
+// Both limits, both counts in use, and the first excess. The use may be above a limit.
 pub struct DecodedOutputBudget {
     pub max_values: FieldValues,
     pub max_payload_bytes: PayloadBytes,
@@ -40,27 +41,31 @@ pub struct OutputCounts {
     pub payload_bytes: PayloadBytes,
 }
 
+// What `reserve` answers: nothing is reserved where a limit would be passed.
 pub enum ReserveAnswer {
     Reserved,
     Exceeded(OutputBudgetExceeded),
 }
 
+// What `rollback` answers: nothing is changed where a count is above the one in use.
 pub enum RollbackAnswer {
     RolledBack,
     AboveUse,
 }
 
-// What a call answers, and the budget after it.
+// What `take_exceeded` answers, and the budget after it.
 pub struct TakeOutcome {
     pub answer: Exceeded,
     pub budget: DecodedOutputBudget,
 }
 
+// What `reserve` answers, and the budget after it.
 pub struct ReserveOutcome {
     pub answer: ReserveAnswer,
     pub budget: DecodedOutputBudget,
 }
 
+// What `rollback` answers, and the budget after it.
 pub struct RollbackOutcome {
     pub answer: RollbackAnswer,
     pub budget: DecodedOutputBudget,
@@ -79,7 +84,7 @@ fn left(max: usize, used: usize) -> usize
     max - used
 }
 
-// Whether the sum is above the limit. The sum itself may be no count.
+// Whether the sum is above the limit, also where it is above 2^64 - 1.
 fn passes(max: usize, used: usize, more: usize) -> bool
     ensures { λ r. ⌜ r ≡ ltb max (used + more) ⌝ }
 {

@@ -52,7 +52,7 @@ pub fn materialize_pending(
     out.answer
 }
 
-// By value again, through the lent form: a caller that holds no reference to a budget can run it.
+// By value again, through `reserve`: a caller that holds no reference to a budget can run the lent form.
 pub fn reserve_by_loan(
     b: DecodedOutputBudget,
     values: FieldValues,
@@ -68,6 +68,7 @@ pub fn reserve_by_loan(
     }
 }
 
+// By value again, through `rollback`.
 pub fn rollback_by_loan(
     b: DecodedOutputBudget,
     values: FieldValues,
@@ -83,6 +84,7 @@ pub fn rollback_by_loan(
     }
 }
 
+// By value again, through `materialize_pending`.
 pub fn materialize_by_loan(
     b: DecodedOutputBudget,
     preflight: PreflightAnswer,

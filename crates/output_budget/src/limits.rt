@@ -26,6 +26,7 @@ pub enum LimitsRefusal {
     ZeroPayloadBytes,
 }
 
+// What the limits call answers.
 pub enum LimitsAnswer {
     Accepted(DecodedOutputLimits),
     Refused(LimitsRefusal),

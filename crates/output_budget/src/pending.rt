@@ -13,20 +13,23 @@ pub enum DecoderReport {
     Decoded(PendingOutputPreflight),
 }
 
+// Why a queued body is not decoded, or its decoding not taken.
 pub enum PendingOutputError {
     // within the whole budget, but above what remains
     TemporarilyDoesNotFit,
     // above the whole budget
     NeverFits,
-    // no valid framing, or the decoder's report is another
+    // no valid framing, or a decoder's report that does not agree with the preflight
     Invalid,
 }
 
+// What the fit tests answer.
 pub enum FitAnswer {
     Fits,
     Refused(PendingOutputError),
 }
 
+// What materializing answers.
 pub enum MaterializeAnswer {
     // how many bytes the body leaves
     Materialized(usize),
@@ -86,9 +89,10 @@ impl DecodedOutputBudget {
             return FitAnswer::Refused(PendingOutputError::Invalid);
         };
         if is_above(cost, self.whole()) {
-            return FitAnswer::Refused(PendingOutputError::NeverFits);
+            FitAnswer::Refused(PendingOutputError::NeverFits)
+        } else {
+            FitAnswer::Fits
         }
-        FitAnswer::Fits
     }
 
     // Whether the body fits what remains.
@@ -124,14 +128,14 @@ impl DecodedOutputBudget {
         if is_above(cost, self.remaining()) {
             return self.refused(PendingOutputError::TemporarilyDoesNotFit);
         }
-        if !report_agrees(cost, report) {
-            return self.refused(PendingOutputError::Invalid);
+        if report_agrees(cost, report) {
+            let budget = self.grow(cost.field_values, cost.field_payload_bytes);
+            return MaterializeOutcome {
+                answer: MaterializeAnswer::Materialized(cost.remainder_len),
+                budget,
+            };
         }
-        let budget = self.grow(cost.field_values, cost.field_payload_bytes);
-        MaterializeOutcome {
-            answer: MaterializeAnswer::Materialized(cost.remainder_len),
-            budget,
-        }
+        self.refused(PendingOutputError::Invalid)
     }
 
     // Refused, with nothing changed.

@@ -1,5 +1,5 @@
 use borrow.Author.Needs.{needs}
-use Rattle.output_budget.proofs.Materials.{invalid, never-fits, does-not-fit, disagrees, commits, left-within}
+use Rattle.output_budget.proofs.Materials.{invalid, never-fits, does-not-fit, left-within, commits, disagrees}
 use Rattle.output_budget.proofs.budget.DecodedOutputBudget.materialized.Statement.{statement}
 use Rattle.output_budget.proofs.budget.DecodedOutputBudget.materialized.Tie as tie
 
@@ -42,19 +42,19 @@ returns-3 c = search (does-not-fit, needs)
 report-agrees-requires : tie.Need-report-agrees-requires
 report-agrees-requires c κs = search needs
 
-refused-requires-4 : tie.Need-refused-requires-4
-refused-requires-4 c κs = search needs
-
-returns-4 : tie.Need-returns-4
-returns-4 c = search (disagrees, needs)
-
 grow-requires : tie.Need-grow-requires
 grow-requires c κs =
     let d : tie.After-is-above2 = c .before .before .before in
     left-within _ _ _ _ _ (d .before .remaining .ensures) (d .is-above2 .ensures) (c .before .before .if2 .left)
 
+returns-4 : tie.Need-returns-4
+returns-4 c = search (commits, needs)
+
+refused-requires-4 : tie.Need-refused-requires-4
+refused-requires-4 c κs = search needs
+
 returns-5 : tie.Need-returns-5
-returns-5 c = search (commits, needs)
+returns-5 c = search (disagrees, needs)
 
 pub materialized-spec : {M : Type 1} → statement M
 materialized-spec =
@@ -73,7 +73,7 @@ materialized-spec =
     refused-requires-3
     returns-3
     report-agrees-requires
-    refused-requires-4
-    returns-4
     grow-requires
+    returns-4
+    refused-requires-4
     returns-5)
