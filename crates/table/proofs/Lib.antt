@@ -1,1 +1,4 @@
+pub mod Tests
 pub mod Words
+pub mod Limits
+pub mod Facts
