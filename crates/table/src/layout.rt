@@ -33,6 +33,9 @@ pub const ENTRY_COUNT: usize = 10;
 
 pub const CHANCE_COUNT: usize = 11;
 
+// The word of a record's place that is the index's.
+pub const INDEX: usize = 3;
+
 // The entry whose first word is at p.
 pub fn entry_at(words: &[u64], p: usize) -> Entry
     requires { ⌜ p + entryWords ≤ length (now words) ⌝ }

@@ -1,6 +1,8 @@
 // The cache's table in the lent words: a header, entries for bodies, records for templates (docs/LAYOUT.md).
+mod check;
 mod layout;
 
+pub use check::well_formed;
 pub use layout::entry_at;
 pub use layout::limits_at;
 pub use layout::record_at;

@@ -1,5 +1,5 @@
 use borrow.Author.Needs.{needs}
-use Rattle.table.proofs.Words.{limits-said}
+use Rattle.table.proofs.Words.{limits-read}
 use Rattle.table.proofs.layout.limits_at.Statement.{statement}
 use Rattle.table.proofs.layout.limits_at.Tie as tie
 
@@ -25,7 +25,7 @@ shared-slice-read-t15 : tie.Need-shared-slice-read-t15
 shared-slice-read-t15 c = search needs
 
 returns : tie.Need-returns
-returns c = search (limits-said, needs)
+returns c = search (limits-read, needs)
 
 pub limits-at-spec : {M : Type 1} → statement M
 limits-at-spec =
