@@ -1,3 +1,4 @@
 pub mod Layout
 pub mod Table
 pub mod WellFormed
+pub mod Passes

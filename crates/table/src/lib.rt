@@ -1,4 +1,12 @@
 // The cache's table in the lent words: a header, entries for bodies, records for templates (docs/LAYOUT.md).
+mod check;
+mod layout;
+
+pub use check::well_formed;
+pub use layout::entry_at;
+pub use layout::limits_at;
+pub use layout::record_at;
+pub use layout::records_at;
 
 // A body: its template's label, its place and length in the byte area, and the clock reading of its offer.
 pub struct Entry {
