@@ -12,3 +12,4 @@ pub mod Labels
 pub mod Counted
 pub mod Passes
 pub mod WordsPasses
+pub mod Lookups

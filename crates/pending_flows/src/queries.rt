@@ -1,0 +1,67 @@
+// The queries: `would_accept`, the figures, and handed-out bodies.
+ghost use mathlib.Core.Path.{_≡_};
+ghost use mathlib.Core.Bool.{true};
+ghost use lib.ListN.{length};
+ghost use Rattle.table.specs.Table.{tableOf};
+ghost use Rattle.table.specs.WellFormed.{wellFormed};
+ghost use Rattle.cache_model.specs.Cache.{says, tells};
+ghost use Rattle.cache_model.specs.Queries.{wouldAccept, figures, readHandedOut};
+ghost use Rattle.pending_flows.specs.View.{areasOf, cacheOf, view};
+ghost use Rattle.pending_flows.specs.Queries.{asked, acceptAnswer, figuresAnswer, shown, PlacesHandedOut};
+ghost use Rattle.pending_flows.specs.Live.{liveOf};
+use config::PendingFlowsConfig;
+use table::LabelFound;
+use table::label_of;
+use table::limits_at;
+use table::live_count;
+use table::records_at;
+
+pub enum AcceptAnswer {
+    Yes,
+    No,
+    // number 28
+    Damaged,
+}
+
+// How many of this id's bodies are not expired.
+fn live_of(words: &[u64], bytes: &[u8], limits: PendingFlowsConfig, id: u64, clock: u64) -> usize
+    requires { ⌜ (wellFormed (now words) (length (now bytes)) ≡ true) × (limits ≡ tableOf (now words) .limits) ⌝ }
+    ensures { λ r. ⌜ r ≡ liveOf id clock (cacheOf (tableOf (now (words .entry))) (now (bytes .entry))) ⌝ }
+{
+    let held = words[HELD_COUNT] as usize;
+    let entries = words[ENTRY_COUNT] as usize;
+    let LabelFound::At(label) = label_of(words, records_at(limits), held, id) else {
+        return 0;
+    };
+    let ttl = limits.ttl;
+    live_count(words, entries, label, ttl, clock)
+}
+
+// Whether a well-formed cache would accept a body of this id and length at this clock reading.
+fn accepts(words: &[u64], bytes: &[u8], id: u64, len: usize, clock: u64) -> bool
+    requires { ⌜ wellFormed (now words) (length (now bytes)) ≡ true ⌝ }
+    ensures { λ r. ⌜ r ≡ wouldAccept id len clock (cacheOf (tableOf (now (words .entry))) (now (bytes .entry))) ⌝ }
+{
+    let limits = limits_at(words);
+    if limits.max_entry_size_bytes < len {
+        return false;
+    }
+    if limits.max_total_bytes < len {
+        return false;
+    }
+    live_of(words, bytes, limits, id, clock) < limits.max_entries_per_template
+}
+
+// Whether an offer would be accepted: yes binds an offer of this id and length at this clock reading, no does not.
+pub fn would_accept(words: &[u64], bytes: &[u8], id: u16, len: usize, clock: u64) -> AcceptAnswer
+    ensures { λ r.
+        ⌜ acceptAnswer r ≡ asked (λ c. says (wouldAccept id len clock c)) (view (areasOf (now (words .entry)) (now (bytes .entry)))) ⌝ }
+{
+    if !table::well_formed(words, bytes.len()) {
+        return AcceptAnswer::Damaged;
+    }
+    if accepts(words, bytes, id as u64, len, clock) {
+        return AcceptAnswer::Yes;
+    }
+    AcceptAnswer::No
+}
