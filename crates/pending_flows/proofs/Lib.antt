@@ -1,1 +1,3 @@
 pub mod Openings
+pub mod Templates
+pub mod Questions

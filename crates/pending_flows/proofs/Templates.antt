@@ -1,7 +1,7 @@
 -- The templates that records and entries stand for: their bodies by label, counted and looked up. Assumes nothing.
-use mathlib.Core.Path.{_≡_, refl, ap, sym, _∙_}
+use mathlib.Core.Path.{_≡_, refl, ap}
 use mathlib.Core.Bool.{Bool, true, false, not, _&&_, cond}
-use mathlib.Core.List.{List, [], _∷_, _++_}
+use mathlib.Core.List.{List, [], _∷_}
 use Prim.Native.Nat.{ℕ, zero, suc, _+_, _-_, _≤_, _<_}
 use native.Mathlib.Omega.{arith}
 use lib.Dec.{eqb}
@@ -16,10 +16,10 @@ use Rattle.table.specs.declared.LabelFound.the-variants as Label
 use Rattle.table.specs.declared.EntryFound.{EntryFound}
 use Rattle.table.specs.declared.EntryFound.the-variants as Found
 use Rattle.table.specs.Table.{tally}
-use Rattle.table.specs.Reads.{labelOf, isLive, liveCount, countSum, nthOf}
-use Rattle.cache_model.specs.Bodies.{Body, Template, keep, allBodies, bodiesOf, expired}
+use Rattle.table.specs.Reads.{labelOf, liveCount, countSum, nthOf}
+use Rattle.cache_model.specs.Bodies.{Body, keep, allBodies, bodiesOf, expired}
 use Rattle.cache_model.specs.Queries.{noBody}
-use Rattle.pending_flows.specs.View.{bodyAt, bodiesAt, templateAt, templatesAt}
+use Rattle.pending_flows.specs.View.{bodyAt, bodiesAt, templatesAt}
 
 abbrev pub All : {A : Type 0} → (A → Type 0) → List A → Type 0
 All P [] = Unit {0}
@@ -32,7 +32,8 @@ module _ (bytes : List ℕ) where
   length-bodies k (e ∷ es) = by-label (eqb k (e .label)) (length-bodies k es)
     where
       by-label : (b : Bool) → length (bodiesAt bytes k es) ≡ tally k es →
-          length (cond b (bodyAt bytes e ∷ bodiesAt bytes k es) (bodiesAt bytes k es)) ≡ cond b (suc (tally k es)) (tally k es)
+          length (cond b (bodyAt bytes e ∷ bodiesAt bytes k es) (bodiesAt bytes k es))
+          ≡ cond b (suc (tally k es)) (tally k es)
       by-label true ih = ap suc ih
       by-label false ih = ih
 
@@ -78,7 +79,8 @@ module _ (bytes : List ℕ) where
   length-templates es (r ∷ rs) = ap suc (length-templates es rs)
 
   -- where each record's count is right, as many bodies as the counts say
-  pub length-all-bodies : (es : List Entry) (rs : List TemplateRecord) → All (λ r. r .count ≡ tally (r .label) es) rs →
+  pub length-all-bodies : (es : List Entry) (rs : List TemplateRecord) →
+      All (λ r. r .count ≡ tally (r .label) es) rs →
       length (allBodies (templatesAt bytes es rs)) ≡ countSum rs
   unfolding countSum
   length-all-bodies es [] h = refl
@@ -108,7 +110,8 @@ module _ (bytes : List ℕ) where
       counted : (n : ℕ) → ((m : ℕ) → NthBody m bs (nthOf k m es)) →
           NthBody n (bodyAt bytes e ∷ bs) (cond (eqb n 0) (Found.At e) (nthOf k (n - 1) es))
       counted zero ih = (omega arith, refl)
-      counted (suc m) ih = let z : suc m - 1 ≡ m = omega arith in rw (z, ne-eqb (suc m) 0 (λ q. omega arith)) (further m (nthOf k m es) (ih m))
+      counted (suc m) ih = let z : suc m - 1 ≡ m = omega arith in rw (z, ne-eqb (suc m) 0 (λ q. omega arith))
+          (further m (nthOf k m es) (ih m))
 
       by-label : (b : Bool) → ((m : ℕ) → NthBody m bs (nthOf k m es)) →
           NthBody n (cond b (bodyAt bytes e ∷ bs) bs)

@@ -1,21 +1,24 @@
-// The queries: `would_accept`, the figures, and handed-out bodies.
+// The queries.
 ghost use mathlib.Core.Path.{_≡_};
 ghost use mathlib.Core.Bool.{true};
 ghost use lib.ListN.{length};
 ghost use Rattle.table.specs.Table.{tableOf};
 ghost use Rattle.table.specs.WellFormed.{wellFormed};
-ghost use Rattle.cache_model.specs.Cache.{says, tells};
-ghost use Rattle.cache_model.specs.Queries.{wouldAccept, figures, readHandedOut};
+ghost use Rattle.cache_model.specs.Cache.{says};
+ghost use Rattle.cache_model.specs.Queries.{wouldAccept};
 ghost use Rattle.pending_flows.specs.View.{areasOf, cacheOf, view};
-ghost use Rattle.pending_flows.specs.Queries.{asked, acceptAnswer, figuresAnswer, shown, PlacesHandedOut};
+ghost use Rattle.pending_flows.specs.Queries.{asked, acceptAnswer};
 ghost use Rattle.pending_flows.specs.Live.{liveOf};
 use config::PendingFlowsConfig;
+use table::ENTRY_COUNT;
+use table::HELD_COUNT;
 use table::LabelFound;
 use table::label_of;
 use table::limits_at;
 use table::live_count;
 use table::records_at;
 
+// What `would_accept` answers.
 pub enum AcceptAnswer {
     Yes,
     No,
@@ -57,11 +60,11 @@ pub fn would_accept(words: &[u64], bytes: &[u8], id: u16, len: usize, clock: u64
     ensures { λ r.
         ⌜ acceptAnswer r ≡ asked (λ c. says (wouldAccept id len clock c)) (view (areasOf (now (words .entry)) (now (bytes .entry)))) ⌝ }
 {
-    if !table::well_formed(words, bytes.len()) {
-        return AcceptAnswer::Damaged;
+    if table::well_formed(words, bytes.len()) {
+        if accepts(words, bytes, id as u64, len, clock) {
+            return AcceptAnswer::Yes;
+        }
+        return AcceptAnswer::No;
     }
-    if accepts(words, bytes, id as u64, len, clock) {
-        return AcceptAnswer::Yes;
-    }
-    AcceptAnswer::No
+    AcceptAnswer::Damaged
 }

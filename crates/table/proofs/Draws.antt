@@ -96,8 +96,11 @@ pub exact-draws : (l xs : List ℕ) → ((i : ℕ) → getD l i 0 ≡ occurs i x
 unfolding draws occurs
 exact-draws l [] f = (refl, zero-sum l f)
 exact-draws l (x ∷ xs) f =
-    let rest = exact-draws (lessAt l x) xs (λ i. by-number i (ℕ-discrete i x)) in
-    (and-both (ltb 0 (getD l x 0)) _ (lt-ltb 0 (getD l x 0) some) (rest .0), omega (arith, less-sum l x some, rest .1))
+    let rest = exact-draws (lessAt l x) xs (λ i. by-number i (ℕ-discrete i x)) in (
+      and-both (ltb 0 (getD l x 0)) _ (lt-ltb 0 (getD l x 0) some) (rest .0),
+      omega
+          (arith, less-sum l x some, rest .1),
+    )
   where
     some : 0 < getD l x 0
     some = omega (arith, f x, occurs-here x x xs refl)

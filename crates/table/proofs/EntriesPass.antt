@@ -65,7 +65,8 @@ module _ (out : ℕ) (e : Entry) where
       by-label (no h) = omega (arith, held-adds h)
 
 -- `left` entries are left, from word p on; those passed end at `end`, and their held lengths sum to `held`
-pub record EntriesPassed (w : List ℕ) (entries size most out total : ℕ) (allow₀ allow : List ℕ) (end held left p : ℕ) :
+pub record EntriesPassed (w : List ℕ) (entries size most out total : ℕ) (allow₀ allow : List ℕ)
+    (end held left p : ℕ) :
     Type 0
   where
     pub reached : p + entryWords * left ≡ entriesAt + entryWords * entries

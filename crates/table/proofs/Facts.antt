@@ -187,7 +187,8 @@ module _ (t : Table) (is : List ℕ) where
       (and-both (allDiffer (λ r. r .key) all) _ (differ-holds (λ r. r .key) all (h .keys-differ))
       (and-both (allDiffer (λ r. r .label) all) _ (differ-holds (λ r. r .label) all (h .labels-differ))
       (and-both entries-test _
-      (every-holds (entryLegal (t .limits) all) (LegalEntry (t .limits) all) (entry-holds (t .limits) all) (t .entries)
+      (every-holds (entryLegal (t .limits) all) (LegalEntry (t .limits) all) (entry-holds (t .limits) all)
+      (t .entries)
       (h .entries-legal))
       (and-both places-test _ (places-hold 0 (t .limits .«max_total_bytes») (t .entries) (h .entries-placed))
       (and-both (totalRight t) _ (eq-eqb _ _ (h .total-right)) (h .index-right))))))
@@ -222,6 +223,7 @@ module _ (w : List ℕ) (bytes : ℕ) where
       (and-both (flagsLegal w) _
       (and-both (leb (ttlSet w) 1) _ (le-leb _ _ (h .ttl-flag)) (le-leb _ _ (h .chance-flag)))
       (and-both (countsLegal w) _
-      (and-both (leb (heldCount w + chanceCount w) (limitsOf w .«max_pending_flows»)) _ (le-leb _ _ (h .templates-fit))
+      (and-both (leb (heldCount w + chanceCount w) (limitsOf w .«max_pending_flows»)) _ (le-leb _ _
+      (h .templates-fit))
       (le-leb _ _ (h .entries-fit)))
       (table-holds (tableOf w) (index w) (h .table-legal)))))

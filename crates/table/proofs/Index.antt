@@ -93,7 +93,8 @@ module _ (rs : List TemplateRecord) where
   pub each-once : (is : List ℕ) → length is ≡ length rs → indexRises rs 0 is ≡ true → (i : ℕ) → i < length rs →
       occurs i is ≡ 1
   unfolding ones
-  each-once is len t i h = sym (draws-exact ones is all-drawn (omega (arith, sum-replicate (length rs) 1)) i) ∙ one i h
+  each-once is len t i h = sym (draws-exact ones is all-drawn (omega (arith, sum-replicate (length rs) 1)) i)
+      ∙ one i h
     where
       one : (x : ℕ) → x < length rs → getD ones x 0 ≡ 1
       one x k = getD-replicate {A = ℕ} (length rs) x 1 0 k
@@ -101,7 +102,8 @@ module _ (rs : List TemplateRecord) where
       all-drawn : draws ones is ≡ true
       all-drawn = rise-draws ones 0 is t (λ x o. omega (arith, one x (rise-each 0 is t x o .0)))
 
-  rise-differ : (low : ℕ) (is : List ℕ) → indexRises rs low is ≡ true → (i j : ℕ) → 0 < occurs i is → 0 < occurs j is →
+  rise-differ : (low : ℕ) (is : List ℕ) → indexRises rs low is ≡ true → (i j : ℕ) → 0 < occurs i is →
+      0 < occurs j is →
       (i ≡ j → ⊥) → keyAt rs i ≢ keyAt rs j
   unfolding occurs
   rise-differ low [] t i j p q d s = omega arith

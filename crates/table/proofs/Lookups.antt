@@ -55,7 +55,8 @@ module _ (ttl : Ttl) (clock label : ℕ) (e : Entry) where
   pub other-label : (label ≡ e .label → ⊥) → false ≡ isLive ttl clock label e
   other-label h = rw (ne-eqb label (e .label) h)
 
-  pub live-by-age : {v : Bool} → label ≡ e .label → v ≡ expiredAt ttl clock (e .clock) → not v ≡ isLive ttl clock label e
+  pub live-by-age : {v : Bool} → label ≡ e .label → v ≡ expiredAt ttl clock (e .clock) →
+      not v ≡ isLive ttl clock label e
   live-by-age h f = rw (eq-eqb label (e .label) h, f)
 
 -- Counting live entries: those counted, and then those among the `left` ones from word p on.
@@ -68,7 +69,8 @@ pub record LiveCounted (w : List ℕ) (ttl : Ttl) (clock label entries live p le
   pub rest : liveCount ttl clock label (entriesFrom w entriesAt entries) ≡
       live + liveCount ttl clock label (entriesFrom w p left)
 
-pub none-counted : (w : List ℕ) (ttl : Ttl) (clock label entries : ℕ) → headerWords + entryWords * entries ≤ length w →
+pub none-counted : (w : List ℕ) (ttl : Ttl) (clock label entries : ℕ) →
+    headerWords + entryWords * entries ≤ length w →
     LiveCounted w ttl clock label entries 0 headerWords entries
 none-counted w ttl clock label entries h = record { within = h; few = omega arith; rest = omega arith }
 

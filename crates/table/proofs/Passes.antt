@@ -17,7 +17,8 @@ use Rattle.table.proofs.Draws.{sumOf, sum-zero, sum-replicate, draws, d
 use Rattle.table.proofs.Index.{index-differs}
 use Rattle.table.proofs.Labels.{absent-says, each-label, absent-tally, sumBut, held-lens}
 use Rattle.table.proofs.Counted.{length-allowed, allowed-absent, allowed-sum, records-say, records-hold}
-use Rattle.table.proofs.Counted.{allowed-tally, labelsOf, occurs-tally, LegalEntries, entries-say, entries-hold}
+use Rattle.table.proofs.Counted.{allowed-tally, labelsOf, occurs-tally, LegalEntries, entries-say}
+use Rattle.table.proofs.Counted.{entries-hold}
 
 none-allowed : (i : ℕ) → getD noAllowance i 0 ≡ 0
 none-allowed i = sum-zero noAllowance i (sum-replicate 1024 0)
@@ -63,7 +64,8 @@ module _ (t : Table) (is : List ℕ) where
         All Known (t .entries) → sumLens (t .held) (t .entries) ≡ sumBut out (t .entries)
     total-of-held legal differ known =
         held-lens (t .held) (t .handed) (t .entries) single differ
-        (all-map (LegalRecord (t .limits) (t .entries)) (λ r. r .label < 1024) (λ r x. x .label-small) all legal) known
+        (all-map (LegalRecord (t .limits) (t .entries)) (λ r. r .label < 1024)
+        (λ r x. x .label-small) all legal) known
 
     module _ (holds : passes ≡ true) where
       records-right : records-test ≡ true
@@ -102,7 +104,13 @@ module _ (t : Table) (is : List ℕ) where
           by-label : (k : ℕ) → 0 < tally k (t .entries) → (b : Bool) → hasLabel k all ≡ b → b ≡ true
           by-label k some true e = refl
           by-label k some false e =
-              absurd (omega (arith, counted k, allowed-absent noAllowance all k (absent-says k all e), none-allowed k))
+              absurd (omega (
+                arith,
+                counted k,
+                allowed-absent noAllowance all k
+                    (absent-says k all e),
+                none-allowed k,
+              ))
 
       passes-say : length is ≡ length all → LegalTable t is
       passes-say long = record {

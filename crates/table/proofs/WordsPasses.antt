@@ -34,7 +34,8 @@ pub keys-small : (w : List ℕ) (p k : ℕ) {cap many : ℕ} {allow allow′ : L
     Allowed cap many (recordsFrom w p k) allow allow′ t → t ≡ true → KeysSmall w p k
 keys-small w p k passed right = small-keys w _ _ p k _ 0 (sym (passed .test) ∙ right)
 
-module _ (l : PendingFlowsConfig) (w : List ℕ) (header : HeaderLegal l w) (from : ℕ) (there : from ≡ recordsAt l) where
+module _ (l : PendingFlowsConfig) (w : List ℕ) (header : HeaderLegal l w) (from : ℕ) (there : from
+    ≡ recordsAt l) where
   abbrev cap : ℕ
   cap = l .«max_entries_per_template»
 

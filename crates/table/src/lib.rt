@@ -4,6 +4,10 @@ mod layout;
 mod reads;
 
 pub use check::well_formed;
+pub use layout::CHANCE_COUNT;
+pub use layout::ENTRY_COUNT;
+pub use layout::HELD_COUNT;
+pub use layout::TOTAL;
 pub use layout::entry_at;
 pub use layout::limits_at;
 pub use layout::record_at;

@@ -31,7 +31,8 @@ loop-less : tie.Need-loop-less Inv-loop μ-loop
 loop-less c = search needs
 
 loop-again : tie.Need-loop-again Inv-loop μ-loop
-loop-again c = label-further (c .before .before .before .before .loop .inv) _ (c .before .before .before .loop-test .taken)
+loop-again c = label-further (c .before .before .before .before .loop .inv) _
+    (c .before .before .before .loop-test .taken)
     (c .before .before .record-at .ensures) (c .if1 .left)
 
 returns-2 : tie.Need-returns-2 Inv-loop μ-loop

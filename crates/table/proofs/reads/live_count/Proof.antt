@@ -39,8 +39,10 @@ loop-again : tie.Need-loop-again Inv-loop μ-loop
 loop-again c = let inv = c .before .before .before .before .loop .inv in
     let some = c .before .before .before .loop-test .taken in
     ⊎-elim
-    (λ v. rw (v .1) (live-counted inv _ _ some (c .before .before .entry-at .ensures) (c .before .is-live .ensures) (v .0 .taken)))
-    (λ v. rw (v .1) (not-counted inv _ _ some (c .before .before .entry-at .ensures) (c .before .is-live .ensures) (v .0 .left)))
+    (λ v. rw (v .1) (live-counted inv _ _ some (c .before .before .entry-at .ensures) (c .before .is-live .ensures)
+    (v .0 .taken)))
+    (λ v. rw (v .1) (not-counted inv _ _ some (c .before .before .entry-at .ensures) (c .before .is-live .ensures)
+    (v .0 .left)))
     (c .if1 .came)
 
 returns : tie.Need-returns Inv-loop μ-loop

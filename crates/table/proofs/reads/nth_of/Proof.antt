@@ -1,6 +1,7 @@
 use mathlib.Core.Logic.{⊎-elim}
 use borrow.Author.Needs.{needs}
-use Rattle.table.proofs.Lookups.{EntrySought, all-entries, entry-absent, entry-found, entry-before, entry-of-other}
+use Rattle.table.proofs.Lookups.{EntrySought, all-entries, entry-absent, entry-found, entry-before}
+use Rattle.table.proofs.Lookups.{entry-of-other}
 use Rattle.table.proofs.reads.nth_of.Statement.{statement}
 use Rattle.table.proofs.reads.nth_of.Tie as tie
 use Rattle.table.proofs.reads.nth_of.Reads as reads
