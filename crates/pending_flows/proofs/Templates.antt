@@ -17,13 +17,10 @@ use Rattle.table.specs.declared.EntryFound.{EntryFound}
 use Rattle.table.specs.declared.EntryFound.the-variants as Found
 use Rattle.table.specs.Table.{tally}
 use Rattle.table.specs.Reads.{labelOf, liveCount, countSum, nthOf}
+use Rattle.table.proofs.Facts.{All}
 use Rattle.cache_model.specs.Bodies.{Body, keep, allBodies, bodiesOf, expired}
 use Rattle.cache_model.specs.Queries.{noBody}
 use Rattle.pending_flows.specs.View.{bodyAt, bodiesAt, templatesAt}
-
-abbrev pub All : {A : Type 0} → (A → Type 0) → List A → Type 0
-All P [] = Unit {0}
-All P (x ∷ xs) = P x × All P xs
 
 module _ (bytes : List ℕ) where
   -- as many bodies as entries with the label

@@ -4,4 +4,7 @@ mod queries;
 
 pub use opening::open;
 pub use queries::AcceptAnswer;
+pub use queries::CacheFigures;
+pub use queries::FiguresAnswer;
+pub use queries::take_figures;
 pub use queries::would_accept;

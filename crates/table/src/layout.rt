@@ -25,6 +25,10 @@ pub const TTL_SET: usize = 4;
 
 const TTL: usize = 5;
 
+pub const CACHED: usize = 6;
+
+pub const DROPPED: usize = 7;
+
 pub const TOTAL: usize = 8;
 
 pub const HELD_COUNT: usize = 9;

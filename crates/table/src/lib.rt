@@ -4,7 +4,9 @@ mod layout;
 mod reads;
 
 pub use check::well_formed;
+pub use layout::CACHED;
 pub use layout::CHANCE_COUNT;
+pub use layout::DROPPED;
 pub use layout::ENTRY_COUNT;
 pub use layout::HELD_COUNT;
 pub use layout::TOTAL;
