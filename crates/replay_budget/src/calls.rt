@@ -243,13 +243,21 @@ fn more(n: u64) -> u64 {
     if n < 18446744073709551615 { n + 1 } else { n }
 }
 
-// A report of a row: 0 failure, 1 the preflight's figures, 2 to 4 one of them one more.
+// One less, down to 0.
+fn less(n: u64) -> u64 {
+    if 0 < n { n - 1 } else { n }
+}
+
+// A report of a row: 0 failure, 1 the preflight's figures, 2 to 4 one of them one more, 5 to 7 one less.
 fn report_of(kind: u64, values: u64, payload: u64, remainder: u64) -> DecoderReport {
     match kind {
         0 => DecoderReport::Failed,
         2 => DecoderReport::Decoded(cost_of(more(values), payload, remainder)),
         3 => DecoderReport::Decoded(cost_of(values, more(payload), remainder)),
         4 => DecoderReport::Decoded(cost_of(values, payload, more(remainder))),
+        5 => DecoderReport::Decoded(cost_of(less(values), payload, remainder)),
+        6 => DecoderReport::Decoded(cost_of(values, less(payload), remainder)),
+        7 => DecoderReport::Decoded(cost_of(values, payload, less(remainder))),
         _ => DecoderReport::Decoded(cost_of(values, payload, remainder)),
     }
 }
