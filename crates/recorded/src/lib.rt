@@ -17,7 +17,7 @@ pub struct Number {
 }
 
 // A replay reads at most so many buffers.
-pub const BUFFERS: usize = 4096;
+pub const BUFFERS: usize = 65536;
 
 const MOST: u64 = 18446744073709551615;
 

@@ -9,7 +9,7 @@ abbrev Inv-loop : tie.InvT-loop
 Inv-loop buffer₀ replay₀ kept₀ turn₀ buffer replay kept turn = (kept ≤ 65536) × (length buffer ≡ 65536)
 
 abbrev μ-loop : tie.MeasureT-loop
-μ-loop buffer₀ replay₀ kept₀ turn₀ buffer replay kept turn = 4096 - turn
+μ-loop buffer₀ replay₀ kept₀ turn₀ buffer replay kept turn = 65536 - turn
 
 run-wrong-rows-requires : tie.Need-run-wrong-rows-requires Inv-loop μ-loop
 run-wrong-rows-requires c κs = search needs

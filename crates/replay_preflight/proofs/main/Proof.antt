@@ -19,7 +19,7 @@ abbrev Inv-loop : tie.InvT-loop
 Inv-loop buffer₀ tally₀ kept₀ turn₀ buffer tally kept turn = (kept ≤ 65536) × (length buffer ≡ 65536)
 
 abbrev μ-loop : tie.MeasureT-loop
-μ-loop buffer₀ tally₀ kept₀ turn₀ buffer tally kept turn = 4096 - turn
+μ-loop buffer₀ tally₀ kept₀ turn₀ buffer tally kept turn = 65536 - turn
 
 run-wrong-rows-requires : tie.Need-run-wrong-rows-requires Inv-loop μ-loop
 run-wrong-rows-requires c κs = search needs
