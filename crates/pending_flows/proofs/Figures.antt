@@ -43,7 +43,7 @@ differ-front f [] ss d = tt
 differ-front f (r ∷ rs) ss d = (all-front _ rs ss (d .0), differ-front f rs ss (d .1))
 
 -- The records behind the first n.
-rest-records : (w : List ℕ) (p n c : ℕ) → drop n (recordsFrom w p (n + c)) ≡ recordsFrom w (p + recordWords * n) c
+pub rest-records : (w : List ℕ) (p n c : ℕ) → drop n (recordsFrom w p (n + c)) ≡ recordsFrom w (p + recordWords * n) c
 unfolding recordsFrom
 rest-records w p zero c =
     let z : p + recordWords * 0 ≡ p = omega arith in

@@ -3,3 +3,4 @@ pub mod Header
 pub mod Opening
 pub mod Live
 pub mod Queries
+pub mod HandedOut

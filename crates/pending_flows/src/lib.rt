@@ -1,7 +1,13 @@
 // The pending flow cache in lent areas (pending_flows.rs).
+mod handed_out;
 mod opening;
 mod queries;
 
+pub use handed_out::BodyPlace;
+pub use handed_out::PlaceAnswer;
+pub use handed_out::PlaceRefusal;
+pub use handed_out::place_handed_out;
+pub use handed_out::read_handed_out;
 pub use opening::open;
 pub use queries::AcceptAnswer;
 pub use queries::CacheFigures;

@@ -18,7 +18,6 @@ use recorded::first_digit;
 use recorded::move_to_front;
 use recorded::next_number;
 use recorded::whole_lines;
-ghost use mathlib.Core.Path.{_≡_};
 ghost use Prim.Native.Nat.{_≤_};
 ghost use lib.ListN.{length};
 

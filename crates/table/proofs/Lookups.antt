@@ -1,11 +1,9 @@
 -- The passes that look something up in records or entries: what is found is found in what is left. Assumes nothing.
 use mathlib.Core.Path.{_≡_, refl, ap, sym, _∙_}
-use mathlib.Core.Bool.{Bool, true, false, not, _&&_, cond}
-use mathlib.Core.List.{List, [], _∷_}
+use mathlib.Core.Bool.{Bool, true, false, not, cond}
+use mathlib.Core.List.{List}
 use Prim.Native.Nat.{ℕ, _+_, _*_, _-_, _≤_, _<_}
-use native.Mathlib.Nat.{le-of-eq}
 use native.Mathlib.Omega.{arith}
-use lib.Dec.{eqb}
 use lib.ListN.{length}
 use borrow.Author.Tests.{eq-eqb, ne-eqb}
 use Rattle.config.specs.declared.Ttl.{Ttl}
@@ -13,9 +11,7 @@ use Rattle.config.specs.Age.{expiredAt}
 use Rattle.config.specs.Limits.{headerWords, recordWords, entryWords}
 use Rattle.table.specs.declared.Entry.{Entry}
 use Rattle.table.specs.declared.TemplateRecord.{TemplateRecord}
-use Rattle.table.specs.declared.LabelFound.{LabelFound}
 use Rattle.table.specs.declared.LabelFound.the-variants as Label
-use Rattle.table.specs.declared.EntryFound.{EntryFound}
 use Rattle.table.specs.declared.EntryFound.the-variants as Found
 use Rattle.table.specs.Layout.{entriesAt}
 use Rattle.table.specs.Table.{entryAt, recordAt, entriesFrom, recordsFrom}

@@ -1,7 +1,7 @@
 -- What is read off the records and entries of a table.
 use mathlib.Core.List.{List, [], _∷_}
-use mathlib.Core.Bool.{Bool, true, false, not, _&&_, cond}
-use Prim.Native.Nat.{ℕ, zero, suc, _+_, _-_}
+use mathlib.Core.Bool.{Bool, not, _&&_, cond}
+use Prim.Native.Nat.{ℕ, _+_, _-_}
 use lib.Dec.{eqb}
 use Rattle.config.specs.declared.Ttl.{Ttl}
 use Rattle.config.specs.Age.{expiredAt}

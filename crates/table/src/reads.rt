@@ -5,7 +5,7 @@ ghost use lib.ListN.{length};
 ghost use Rattle.config.specs.Limits.{headerWords, recordWords, entryWords};
 ghost use Rattle.table.specs.Layout.{entriesAt};
 ghost use Rattle.table.specs.Table.{entriesFrom, recordsFrom};
-ghost use Rattle.table.specs.Reads.{labelOf, isLive, liveCount, countSum, nthOf};
+ghost use Rattle.table.specs.Reads.{labelOf, isLive, liveCount, nthOf};
 use super::Entry;
 use super::EntryFound;
 use super::LabelFound;

@@ -1,0 +1,56 @@
+-- What the queries on handed-out bodies promise. They change nothing: both areas are only read.
+use mathlib.Core.Path.{_≡_}
+use mathlib.Core.List.{List, []}
+use mathlib.Core.Option.{some}
+use Prim.Native.Nat.{ℕ, _+_, _≤_, _<_}
+use lib.ListN.{length, take, drop}
+use Rattle.table.specs.declared.Entry.{Entry}
+use Rattle.table.specs.declared.EntryFound.{EntryFound}
+use Rattle.table.specs.declared.EntryFound.the-variants as Found
+use Rattle.table.specs.Layout.{limitsOf}
+use Rattle.table.specs.Table.{tableOf}
+use Rattle.cache_model.specs.Cache.{Cache, Answer, done, number, count, says, shows, spans, tells}
+use Rattle.cache_model.specs.Queries.{placeHandedOut, handedOut}
+use Rattle.pending_flows.specs.declared.handed_out.BodyPlace.{BodyPlace}
+use Rattle.pending_flows.specs.declared.handed_out.PlaceRefusal.{PlaceRefusal}
+use Rattle.pending_flows.specs.declared.handed_out.PlaceRefusal.the-variants as Refusal
+use Rattle.pending_flows.specs.declared.handed_out.PlaceAnswer.{PlaceAnswer}
+use Rattle.pending_flows.specs.declared.handed_out.PlaceAnswer.the-variants as Place
+use Rattle.pending_flows.specs.View.{Areas, cacheOf, view}
+use Rattle.pending_flows.specs.Queries.{asked}
+
+-- the bytes that an answer shows: none in a refusal
+abbrev pub shown : Answer → List ℕ
+shown done = []
+shown (number n) = []
+shown (count n) = []
+shown (says b) = []
+shown (shows bs) = bs
+shown (spans n) = []
+shown (tells f) = []
+
+-- document 01's number of each refusal
+abbrev pub placeNumber : PlaceRefusal → ℕ
+placeNumber Refusal.NotHandedOut = 27
+placeNumber Refusal.Damaged = 28
+
+-- document 01's answer of each case: the place is free
+abbrev pub placeAnswer : PlaceAnswer → Answer
+placeAnswer (Place.At p) = spans (p .len)
+placeAnswer (Place.Refused n) = number (placeNumber n)
+
+-- A handed-out body's place is free, but it lies within the configured bytes, and there the byte area holds the body.
+pub record PlacesHandedOut (a : Areas) (k : ℕ) (r : PlaceAnswer) : Type 0 where
+  pub answer : placeAnswer r ≡ asked (placeHandedOut k) (view a)
+  pub within : (p : BodyPlace) → r ≡ Place.At p → p .place + p .len ≤ limitsOf (a .words) .«max_total_bytes»
+  pub inside : (p : BodyPlace) → r ≡ Place.At p → p .place + p .len ≤ length (a .bytes)
+  pub holds : (p : BodyPlace) (c : Cache) → r ≡ Place.At p → view a ≡ some c →
+      take (p .len) (drop (p .place) (a .bytes)) ≡ handedOut k c .bytes
+
+-- the same of the entry that is found in a well-formed cache
+pub record FindsHandedOut (w b : List ℕ) (k : ℕ) (r : EntryFound) : Type 0 where
+  pub absent : r ≡ Found.Nothing → length (cacheOf (tableOf w) b .chance .bodies) ≤ k
+  pub counted : (e : Entry) → r ≡ Found.At e → k < length (cacheOf (tableOf w) b .chance .bodies)
+  pub holds : (e : Entry) → r ≡ Found.At e →
+      take (e .len) (drop (e .place) b) ≡ handedOut k (cacheOf (tableOf w) b) .bytes
+  pub within : (e : Entry) → r ≡ Found.At e → e .place + e .len ≤ limitsOf w .«max_total_bytes»
