@@ -118,7 +118,7 @@ module _ (l : PendingFlowsConfig) (many : ℕ) (es : List Entry) where
       }
 
   -- no label of these records is allowed any yet
-  abbrev pub Free : List ℕ → List TemplateRecord → Type 0
+  abbrev Free : List ℕ → List TemplateRecord → Type 0
   Free allow rs = All (λ r. getD allow (r .label) 0 ≡ 0) rs
 
   free-set : (allow : List ℕ) (k v : ℕ) (rs : List TemplateRecord) → Absent k rs → Free allow rs →

@@ -57,7 +57,7 @@ module _ (out : ℕ) (e : Entry) where
   unfolding heldLen
   held-adds h = rw (ne-eqb _ _ h)
 
-  pub adds-within : heldLen out e ≤ e .len
+  adds-within : heldLen out e ≤ e .len
   adds-within = by-label (ℕ-discrete (e .label) out)
     where
       by-label : Dec (e .label ≡ out) → heldLen out e ≤ e .len

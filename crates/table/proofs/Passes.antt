@@ -4,12 +4,12 @@ use mathlib.Core.Bool.{Bool, true, false, _&&_}
 use mathlib.Core.List.{List, _++_}
 use Prim.Native.Nat.{ℕ, _≤_, _<_}
 use native.Mathlib.Omega.{arith}
-use lib.ListN.{length, getD, length-replicate, length-map}
+use lib.ListN.{length, getD, replicate, length-replicate, length-map}
 use Rattle.table.specs.declared.Entry.{Entry}
 use Rattle.table.specs.declared.TemplateRecord.{TemplateRecord}
 use Rattle.table.specs.Table.{Table, hasLabel, tally, sumLens}
 use Rattle.table.specs.WellFormed.{indexRises, tableLegal}
-use Rattle.table.specs.Passes.{noAllowance, recordsPass, allowedBy, firstLabel, entriesPass}
+use Rattle.table.specs.Passes.{recordsPass, allowedBy, firstLabel, entriesPass}
 use Rattle.table.proofs.Tests.{and-left, and-right, and-both, same-test}
 use Rattle.table.proofs.Facts.{All, all-map, all-both, Differ, LegalRecord, LegalEntry, LegalTable, table-says}
 use Rattle.table.proofs.Facts.{table-holds}
@@ -19,6 +19,10 @@ use Rattle.table.proofs.Labels.{absent-says, each-label, absent-tally, 
 use Rattle.table.proofs.Counted.{length-allowed, allowed-absent, allowed-sum, records-say, records-hold}
 use Rattle.table.proofs.Counted.{allowed-tally, labelsOf, occurs-tally, LegalEntries, entries-say}
 use Rattle.table.proofs.Counted.{entries-hold}
+
+-- what the labels are allowed before the records
+abbrev pub noAllowance : List ℕ
+noAllowance = replicate 1024 0
 
 none-allowed : (i : ℕ) → getD noAllowance i 0 ≡ 0
 none-allowed i = sum-zero noAllowance i (sum-replicate 1024 0)

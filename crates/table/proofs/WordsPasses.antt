@@ -11,12 +11,11 @@ use Rattle.table.specs.declared.TemplateRecord.{TemplateRecord}
 use Rattle.table.specs.Layout.{limitsOf, totalWord, heldCount, entryCount, chanceCount, entriesAt, recordsAt}
 use Rattle.table.specs.Table.{tableOf, index, records, entriesFrom, recordsFrom, indexFrom}
 use Rattle.table.specs.WellFormed.{indexRises, tableLegal}
-use Rattle.table.specs.Passes.{HeaderLegal, noAllowance, recordsPass, allowedBy, Allowed, KeysSmall, firstLabel}
-use Rattle.table.specs.Passes.{entriesPass}
+use Rattle.table.specs.Passes.{HeaderLegal, recordsPass, allowedBy, Allowed, KeysSmall, firstLabel, entriesPass}
 use Rattle.table.proofs.Tests.{and-fails, and-holds}
 use Rattle.table.proofs.Words.{length-entries, length-records, length-index, records-behind}
 use Rattle.table.proofs.Counted.{first-says}
-use Rattle.table.proofs.Passes.{passes, passes-legal}
+use Rattle.table.proofs.Passes.{noAllowance, passes, passes-legal}
 
 -- the records that passed have small keys
 small-keys : (w : List ℕ) (cap many p k : ℕ) (allow : List ℕ) (sum : ℕ) →

@@ -5,7 +5,7 @@ use mathlib.Core.List.{List, [], _∷_}
 use mathlib.Core.Bool.{Bool, true, _&&_, cond}
 use Prim.Native.Nat.{ℕ, _+_, _*_, _-_, _≤_, _<_}
 use lib.Dec.{eqb, leb, ltb}
-use lib.ListN.{length, getD, set, replicate}
+use lib.ListN.{length, getD, set}
 use Rattle.config.specs.declared.PendingFlowsConfig.{PendingFlowsConfig}
 use Rattle.config.specs.Limits.{recordWords, wordsNeeded, maxBodies}
 use Rattle.table.specs.declared.Entry.{Entry}
@@ -24,21 +24,18 @@ pub record HeaderLegal (l : PendingFlowsConfig) (w : List ℕ) : Type 0 where
   pub records-fit : heldCount w + chanceCount w ≤ l .«max_pending_flows»
   pub entries-fit : entryCount w ≤ maxBodies l
 
--- how many entries each label may have: none yet
-abbrev pub noAllowance : List ℕ
-noAllowance = replicate 1024 0
-
 -- a record by itself, where its label was allowed `was` entries before
 unfoldable pub recordFresh : ℕ → ℕ → TemplateRecord → Bool
 recordFresh cap was r = ltb (r .key) 65536 && (eqb was 0 && (ltb 0 (r .count) && leb (r .count) cap))
 
--- each record's label is allowed as many entries as it counts; the counts, with `sum`, come to `many`
+-- each record's label is allowed as many entries as the record counts; the counts, with `sum`, come to `many`
 unfoldable pub recordsPass : ℕ → ℕ → List ℕ → ℕ → List TemplateRecord → Bool
 recordsPass cap many allow sum [] = eqb sum many
 recordsPass cap many allow sum (r ∷ rs) =
     ltb (r .label) 1024 && (recordFresh cap (getD allow (r .label) 0) r && recordsPass cap many
     (set allow (r .label) (r .count)) (sum + r .count) rs)
 
+-- how many entries each label is allowed after the records, where it was allowed so many before
 unfoldable pub allowedBy : List ℕ → List TemplateRecord → List ℕ
 allowedBy allow [] = allow
 allowedBy allow (r ∷ rs) = allowedBy (set allow (r .label) (r .count)) rs
