@@ -18,7 +18,7 @@ use Rattle.config.specs.declared.ConfigRefusal.the-variants.{NoTemplates, NoEnt
 use Rattle.config.specs.declared.ConfigAnswer.{ConfigAnswer}
 use Rattle.config.specs.declared.ConfigAnswer.the-variants.{Accepted, Refused}
 use Rattle.config.specs.Limits.{answerNumber, configNumber, wordsNeeded, maxBodies}
-use Rattle.config.proofs.Legal.{legal}
+use Rattle.table.proofs.Limits.{limits-say}
 use Rattle.table.specs.Layout.{ttlOf, limitsOf}
 use Rattle.table.specs.Table.{entriesFrom, recordsFrom, indexFrom}
 use Rattle.table.specs.WellFormed.{wellFormed, indexRises}
@@ -50,7 +50,7 @@ limits-back l w =
 
 module _ (l : PendingFlowsConfig) (w b : List ℕ) (ok : configNumber l (length b) (length w) ≡ 0) where
   room : wordsNeeded l ≤ length w
-  room = legal l (length b) (length w) ok .words-hold
+  room = limits-say l (length b) (length w) ok .words-enough
 
   same-length : length (openedWords l w) ≡ length w
   same-length = omega (arith, room, length-drop 12 w)
