@@ -6,3 +6,4 @@ pub mod Limits
 pub mod Offers
 pub mod Resizes
 pub mod Calls
+pub mod Numbers
