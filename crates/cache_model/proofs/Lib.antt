@@ -7,3 +7,5 @@ pub mod Offers
 pub mod Resizes
 pub mod Calls
 pub mod Numbers
+pub mod Pruning
+pub mod Acceptance
