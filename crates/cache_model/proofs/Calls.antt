@@ -113,7 +113,7 @@ module _ {F : Followed} (c : Cache) (h : CacheWithin F [] c) where
             (handed-out-within i (c .held) (keep p bs) (sub-keep p bs) held-within);
       }
 
-  restored-within : (i n : ℕ) → n ≢ 0 → mayPutBack i n c ≡ true → CacheWithin F [] (restored i n c)
+  pub restored-within : (i n : ℕ) → n ≢ 0 → mayPutBack i n c ≡ true → CacheWithin F [] (restored i n c)
   unfolding restored
   restored-within i n some e =
       let bs = c .chance .bodies in
@@ -134,7 +134,8 @@ module _ {F : Followed} (c : Cache) (h : CacheWithin F [] c) where
       (λ _. h)
       (λ e. by-case Kept (mayPutBack i n c) (restored-within i n (eqb-false n 0 e)) (λ _. h))
 
-  resized-to-within : (l : PendingFlowsConfig) → Legal l → CacheWithin F [] (resizedTo l c (shrunk l (c .held)) .cache)
+  pub resized-to-within : (l : PendingFlowsConfig) → Legal l
+      → CacheWithin F [] (resizedTo l c (shrunk l (c .held)) .cache)
   unfolding resizedTo
   resized-to-within l legal = record {
     legal = legal;

@@ -72,7 +72,7 @@ module _ (f : ℕ → ℕ) where
   sum-renumbered [] = refl
   sum-renumbered (b ∷ bs) = ap (λ (n : ℕ). size b + n) (sum-renumbered bs)
 
-  total-renumbered : (ts : List Template) → byteTotal (held′ ts) ≡ byteTotal ts
+  pub total-renumbered : (ts : List Template) → byteTotal (held′ ts) ≡ byteTotal ts
   total-renumbered [] = refl
   total-renumbered (t ∷ ts) = ap₂ (λ (m n : ℕ). m + n) (sum-renumbered (t .bodies)) (total-renumbered ts)
 
@@ -111,12 +111,12 @@ module _ (f : ℕ → ℕ) where
   evicted-renumbered : (n : ℕ) (s : Split) → evicted n (split′ s) ≡ split′ (evicted n s)
   unfolding evicted
   evicted-renumbered n s =
-      let gone = take n (s .held) in
+      let oldest = take n (s .held) in
       cc (
         map-drop renumberTemplate n (s .held),
         map-take renumberTemplate n (s .held),
-        all-renumbered gone,
-        map-append renumber (s .removed) (allBodies gone),
+        all-renumbered oldest,
+        map-append renumber (s .removed) (allBodies oldest),
       )
 
   evictions-renumbered : (most more : ℕ) (ts : List Template) → evictions most more (held′ ts) ≡ evictions most more ts
