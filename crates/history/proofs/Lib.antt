@@ -1,3 +1,5 @@
 pub mod Cases
 pub mod Drops
 pub mod Balance
+pub mod Order
+pub mod Answers
