@@ -3,3 +3,6 @@ pub mod Drops
 pub mod Balance
 pub mod Order
 pub mod Answers
+pub mod Rearranged
+pub mod Fates
+pub mod Theorem
