@@ -15,8 +15,8 @@ use variable_versions::config::{ConfigError, DEFAULT_MAX_RECORDS_PER_FLOWSET};
 const USAGE: &str = "\
 usage: oracle record-framing FILE
        oracle record-budget FILE
-       oracle compare-framing [SEED [COUNT]]   (feature live)
-       oracle compare-budget [SEED [COUNT]]    (feature live)";
+       oracle stream-budget [SEED [COUNT]]
+       oracle compare-framing [SEED [COUNT]]   (feature live)";
 
 fn main() -> ExitCode {
     let arguments: Vec<String> = std::env::args().skip(1).collect();
@@ -34,22 +34,20 @@ fn run(arguments: &[&str]) -> Result<ExitCode, String> {
     match arguments {
         ["record-framing", file] => framing::record::run(file),
         ["record-budget", file] => budget::record::run(file),
+        ["stream-budget", rest @ ..] => {
+            let (seed, count) = seed_and_count(rest, budget::stream::DEFAULTS)?;
+            budget::stream::run(seed, count)
+        }
         #[cfg(feature = "live")]
         ["compare-framing", rest @ ..] => {
             let (seed, count) = seed_and_count(rest, framing::compare::DEFAULTS)?;
             framing::compare::run(seed, count)
-        }
-        #[cfg(feature = "live")]
-        ["compare-budget", rest @ ..] => {
-            let (seed, count) = seed_and_count(rest, budget::compare::DEFAULTS)?;
-            budget::compare::run(seed, count)
         }
         _ => Err(USAGE.to_string()),
     }
 }
 
 /// What the command line gives of the two, else the defaults.
-#[cfg(feature = "live")]
 fn seed_and_count(given: &[&str], defaults: (u64, u64)) -> Result<(u64, u64), String> {
     let number = |text: &str| text.parse().map_err(|_| format!("not a number: {text}"));
     match given {

@@ -13,11 +13,10 @@ pub const PAYLOAD_EXCEEDED: u32 = 24;
 /// The width that means "variable" in the variable reading, and 65,535 bytes in the fixed ones.
 pub const VARIABLE: u16 = 65_535;
 
-// What the original does not have: met by the comparisons only.
+// What the original does not have.
+pub const ROLLBACK_ABOVE_USE: u32 = 26;
 #[cfg(feature = "live")]
 pub const TOO_LARGE: u32 = 12;
-#[cfg(feature = "live")]
-pub const ROLLBACK_ABOVE_USE: u32 = 26;
 #[cfg(feature = "live")]
 pub const MAX_BODY: usize = 65_531;
 #[cfg(feature = "live")]

@@ -1,11 +1,11 @@
 -- What a cache holds: bodies, in templates (document 01, "Holding, ageing, pushing out").
 use mathlib.Core.List.{List, [], _∷_, _++_}
-use mathlib.Core.Bool.{Bool, true, false, cond}
-use Prim.Native.Nat.{ℕ, _+_, _-_}
-use lib.Dec.{eqb, leb}
+use mathlib.Core.Bool.{Bool, cond}
+use Prim.Native.Nat.{ℕ, _+_}
+use lib.Dec.{eqb}
 use lib.ListN.{length}
 use Rattle.config.specs.declared.Ttl.{Ttl}
-use Rattle.config.specs.declared.Ttl.the-variants.{None, After}
+use Rattle.config.specs.Age.{expiredAt}
 
 -- document 01's "body", with what is kept beside it
 pub record Body : Type 0 where
@@ -20,14 +20,9 @@ pub record Template : Type 0 where
 abbrev pub size : Body → ℕ
 size b = length (b .bytes)
 
--- document 01's "age": now minus the stored reading, or 0 if now is earlier
-abbrev pub age : ℕ → Body → ℕ
-age now b = now - b .clock
-
--- document 01's "expired": a TTL is set, and age is at least the TTL
+-- document 01's "expired", of a body
 abbrev pub expired : Ttl → ℕ → Body → Bool
-expired None now b = false
-expired (After ttl) now b = leb ttl (age now b)
+expired ttl now b = expiredAt ttl now (b .clock)
 
 -- sums of a weight over bodies, and over the bodies of templates
 abbrev pub sumBodies : (Body → ℕ) → List Body → ℕ

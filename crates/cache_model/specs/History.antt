@@ -4,7 +4,7 @@ use Prim.Native.Nat.{ℕ}
 use Rattle.config.specs.declared.PendingFlowsConfig.{PendingFlowsConfig}
 use Rattle.cache_model.specs.Cache.{Cache, Answer, says, tells, Outcome}
 use Rattle.cache_model.specs.Offer.{offered}
-use Rattle.cache_model.specs.Calls.{opened, drained, putBack, resized, cleared}
+use Rattle.cache_model.specs.Calls.{drained, putBack, resized, cleared}
 use Rattle.cache_model.specs.Queries.{wouldAccept, readHandedOut, placeHandedOut, figures}
 
 -- a call with its arguments

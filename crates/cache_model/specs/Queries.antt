@@ -1,5 +1,5 @@
 -- The queries: no cache changes.
-use mathlib.Core.List.{List, [], _∷_}
+use mathlib.Core.List.{[]}
 use mathlib.Core.Bool.{Bool, not, _&&_, cond}
 use Prim.Native.Nat.{ℕ}
 use lib.Dec.{leb, ltb}

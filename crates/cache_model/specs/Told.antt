@@ -1,12 +1,12 @@
 -- Answers and held bodies in plain numbers, as document 01's cases give them.
-use mathlib.Core.List.{List, [], _∷_, _++_, map}
-use mathlib.Core.Bool.{Bool, cond}
+use mathlib.Core.List.{List, [], _∷_, map}
+use mathlib.Core.Bool.{cond}
 use Prim.Native.Nat.{ℕ}
 use lib.ListN.{replicate}
 use Rattle.config.specs.declared.PendingFlowsConfig.{PendingFlowsConfig}
 use Rattle.config.specs.declared.Ttl.{Ttl}
-use Rattle.cache_model.specs.Bodies.{Body, Template, size}
-use Rattle.cache_model.specs.Cache.{Cache, Answer, done, number, count, says, shows, spans, tells}
+use Rattle.cache_model.specs.Bodies.{Template, size}
+use Rattle.cache_model.specs.Cache.{Answer, done, number, count, says, shows, spans, tells}
 use Rattle.cache_model.specs.Calls.{opened}
 use Rattle.cache_model.specs.History.{Call, Offer, after, answers}
 

@@ -9,6 +9,9 @@ use Rattle.wire.specs.Padding.{isComplete}
 use Rattle.output_preflight.specs.Field.{variableField, fieldOf}
 use Rattle.output_preflight.specs.Scan.{fieldsOf, recordOf, recordsFrom, figures, scanOf}
 use Rattle.output_preflight.specs.Preflight.{preflightOf}
+use Rattle.output_budget.specs.declared.budget.DecodedOutputBudget.{DecodedOutputBudget}
+use Rattle.output_budget.specs.declared.budget.Exceeded.the-variants as Exceeded
+use Rattle.output_budget.specs.Budget.{reserveTold}
 use Rattle.config.specs.declared.PendingFlowsConfig.{PendingFlowsConfig}
 use Rattle.config.specs.declared.Ttl.the-variants.{None, After}
 use Rattle.cache_model.specs.Removal.{evicted, evictions, pruned}
@@ -19,7 +22,7 @@ use Rattle.cache_model.specs.Calls.{drained}
 use Rattle.cache_model.specs.Queries.{wouldAccept, readHandedOut, figures as cacheFigures}
 use Rattle.cache_model.specs.History.{Call, Drain, WouldAccept, ReadHandedOut, TakeFigures, does, after, answers}
 use Rattle.cache_model.specs.Told.{limitsOf, offerOf}
-use Rattle.cases.specs.Questions.{Question, preflight, calls, held, told}
+use Rattle.cases.specs.Questions.{Question, preflight, reserve, calls, held, told}
 
 pub record Row : Type 0 where
   pub asks : Question
@@ -36,6 +39,16 @@ abc = 0x03 ∷ 0x61 ∷ 0x62 ∷ 0x63 ∷ 0x00 ∷ 0x50 ∷ []
 -- no limit that matters
 abbrev many : ℕ
 many = 65536
+
+-- budget 10 and 100, 8 values used
+abbrev eightUsed : DecodedOutputBudget
+eightUsed = record {
+  «max_values» = record { 0 = 10 };
+  «max_payload_bytes» = record { 0 = 100 };
+  «used_values» = record { 0 = 8 };
+  «used_payload_bytes» = record { 0 = 0 };
+  exceeded = Exceeded.None;
+}
 
 -- templates 2, bodies 2, entry 10, total 16, TTL 100
 abbrev small : PendingFlowsConfig
@@ -71,6 +84,7 @@ table =
           (0 ∷ 4 ∷ 7 ∷ 0 ∷ []) ∷ [];
     }
     ∷ record { asks = preflight (abc ++ replicate 3 0xff) (65535 ∷ 2 ∷ []) IpfixVariable many; says = (7 ∷ []) ∷ [] }
+    ∷ record { asks = reserve eightUsed (record { 0 = 3 }) (record { 0 = 500 }); says = (23 ∷ 1 ∷ 10 ∷ 11 ∷ []) ∷ [] }
     ∷ record { asks = held small upToEviction; says = (301 ∷ 8 ∷ []) ∷ (300 ∷ 4 ∷ []) ∷ [] }
     ∷ record {
       asks = calls small (upToEviction ++ upToFull);
@@ -86,5 +100,5 @@ table =
     ∷ []
 
 pub cases-hold : map (λ (row : Row). told (row .asks)) table ≡ map (λ (row : Row). row .says) table
-unfolding leastSize isComplete variableField fieldOf fieldsOf recordOf recordsFrom figures scanOf preflightOf evicted evictions pruned step2 step3 step4 step5 addNewest step4or5 afterStep3 afterStep2 steps2to5 appended refusedSize settled offered drained wouldAccept readHandedOut cacheFigures does after answers
+unfolding leastSize isComplete variableField fieldOf fieldsOf recordOf recordsFrom figures scanOf preflightOf reserveTold evicted evictions pruned step2 step3 step4 step5 addNewest step4or5 afterStep3 afterStep2 steps2to5 appended refusedSize settled offered drained wouldAccept readHandedOut cacheFigures does after answers
 cases-hold = refl

@@ -1,5 +1,5 @@
 -- Which limits are refused, and with which number (document 01, "Numbers that come from the input", 1 to 5).
-use mathlib.Core.Bool.{Bool, true, false, cond}
+use mathlib.Core.Bool.{Bool, false, cond}
 use Prim.Native.Nat.{ℕ, _+_, _*_}
 use lib.Dec.{eqb, leb, ltb}
 use Rattle.config.specs.declared.PendingFlowsConfig.{PendingFlowsConfig}

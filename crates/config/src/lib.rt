@@ -1,4 +1,7 @@
 // The limits of a pending flow cache, and which of them are refused (config.rs, ttl.rs, pending_flows.rs).
+mod age;
+
+pub use age::is_expired;
 ghost use mathlib.Core.Path.{_≡_};
 ghost use Prim.Native.Nat.{_<_};
 ghost use Rattle.config.specs.Limits.{refusalNumber, answerNumber, limitsNumber, areasHold, configNumber};

@@ -2,7 +2,8 @@
 use mathlib.Core.Path.{_≡_}
 use mathlib.Core.List.{List, [], _∷_}
 use Prim.Native.Nat.{ℕ}
-use Rattle.output_preflight.specs.Preflight.{Answer, cost, number}
+use Rattle.wire.specs.declared.Reading.{Reading}
+use Rattle.output_preflight.specs.Preflight.{Answer, cost, number, preflightOf}
 
 -- 0 for a cost, else document 01's number
 abbrev pub exportedNumber : Answer → ℕ
@@ -14,6 +15,11 @@ abbrev pub exportedCost : Answer → List ℕ → List ℕ
 exportedCost (cost v p m) words = v ∷ p ∷ m ∷ []
 exportedCost (number n) words = words
 
+-- an answer handed over: r is returned, and the three words before and after
 pub record Exported (answer : Answer) (r : ℕ) (words words′ : List ℕ) : Type 0 where
-  pub number : r ≡ exportedNumber answer
-  pub cost : words′ ≡ exportedCost answer words
+  pub returned : r ≡ exportedNumber answer
+  pub written : words′ ≡ exportedCost answer words
+
+-- the preflight of a body, handed over
+abbrev pub Preflights : List ℕ → List ℕ → Reading → ℕ → ℕ → List ℕ → List ℕ → Type 0
+Preflights body ws reading limit r words words′ = Exported (preflightOf body ws reading limit) r words words′

@@ -1,7 +1,7 @@
 // The preflight, one function for each reading.
 ghost use Rattle.wire.specs.declared.Reading.the-variants.{V9Fixed, IpfixFixed, IpfixVariable};
-ghost use Rattle.output_preflight.specs.Preflight.{answerOf, preflightOf};
-ghost use Rattle.netflow_pending.specs.Framing.{Exported};
+ghost use Rattle.output_preflight.specs.Preflight.{answerOf};
+ghost use Rattle.netflow_pending.specs.Framing.{Exported, Preflights};
 use output_preflight::PreflightAnswer;
 use wire::Reading;
 
@@ -21,6 +21,7 @@ fn export(answer: PreflightAnswer, cost: &mut [u64; 3]) -> u32
     }
 }
 
+// The preflight of a NetFlow v9 body: 0 with the cost written, or 9, 12 or 7 with the words as they were.
 #[no_mangle]
 pub extern "C" fn netflow_preflight_v9_fixed(
     body: &[u8],
@@ -28,7 +29,7 @@ pub extern "C" fn netflow_preflight_v9_fixed(
     max_records: usize,
     cost: &mut [u64; 3],
 ) -> u32
-    ensures { λ r. ⌜ Exported (preflightOf (now (body .entry)) (now (widths .entry)) V9Fixed «max_records») r (now (cost .entry)) (now (cost .exit)) ⌝ }
+    ensures { λ r. ⌜ Preflights (now (body .entry)) (now (widths .entry)) V9Fixed «max_records» r (now (cost .entry)) (now (cost .exit)) ⌝ }
 {
     export(
         output_preflight::preflight(body, widths, Reading::V9Fixed, max_records),
@@ -36,6 +37,7 @@ pub extern "C" fn netflow_preflight_v9_fixed(
     )
 }
 
+// The same of an IPFIX body without variable-length fields.
 #[no_mangle]
 pub extern "C" fn netflow_preflight_ipfix_fixed(
     body: &[u8],
@@ -43,7 +45,7 @@ pub extern "C" fn netflow_preflight_ipfix_fixed(
     max_records: usize,
     cost: &mut [u64; 3],
 ) -> u32
-    ensures { λ r. ⌜ Exported (preflightOf (now (body .entry)) (now (widths .entry)) IpfixFixed «max_records») r (now (cost .entry)) (now (cost .exit)) ⌝ }
+    ensures { λ r. ⌜ Preflights (now (body .entry)) (now (widths .entry)) IpfixFixed «max_records» r (now (cost .entry)) (now (cost .exit)) ⌝ }
 {
     export(
         output_preflight::preflight(body, widths, Reading::IpfixFixed, max_records),
@@ -51,6 +53,7 @@ pub extern "C" fn netflow_preflight_ipfix_fixed(
     )
 }
 
+// The same of an IPFIX body in which fields of width 65,535 say their length themselves.
 #[no_mangle]
 pub extern "C" fn netflow_preflight_ipfix_variable(
     body: &[u8],
@@ -58,7 +61,7 @@ pub extern "C" fn netflow_preflight_ipfix_variable(
     max_records: usize,
     cost: &mut [u64; 3],
 ) -> u32
-    ensures { λ r. ⌜ Exported (preflightOf (now (body .entry)) (now (widths .entry)) IpfixVariable «max_records») r (now (cost .entry)) (now (cost .exit)) ⌝ }
+    ensures { λ r. ⌜ Preflights (now (body .entry)) (now (widths .entry)) IpfixVariable «max_records» r (now (cost .entry)) (now (cost .exit)) ⌝ }
 {
     export(
         output_preflight::preflight(body, widths, Reading::IpfixVariable, max_records),

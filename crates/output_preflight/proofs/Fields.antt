@@ -11,7 +11,7 @@ use lib.Seq.{drop-cons, drop-drop, take-all}
 use lib.Dec.{ltb, leb}
 use borrow.Author.Tests.{lt-ltb, le-ltb, leb-true}
 use Rattle.wire.specs.declared.Reading.{Reading}
-use Rattle.wire.specs.Size.{isVariable, leastFieldSize, leastSize}
+use Rattle.wire.specs.Size.{isVariable}
 use Rattle.output_preflight.specs.declared.scan.Span.{Span}
 use Rattle.output_preflight.specs.declared.scan.Span.the-variants.{Whole, Cut}
 use Rattle.output_preflight.specs.Field.{spanOf, variableField, fieldOf}
@@ -36,59 +36,54 @@ module _ (s : List ℕ) where
   unfolding variableField
   long-prefix h k l = rw (lt-ltb 0 (length s) h, le-ltb (getD s 0 0) 255 k, lt-ltb 2 (length s) l)
 
--- A whole span has at least so many bytes, ends within so many, and has no more content than bytes.
-abbrev pub Within : ℕ → ℕ → Span → Type 0
-Within least available (Whole s n) = (least ≤ s) × (s ≤ available) × (n ≤ s)
-Within least available Cut = Unit {0}
+-- A whole span ends within so many bytes, and has no more content than bytes.
+abbrev pub Within : ℕ → Span → Type 0
+Within available (Whole size content) = (size ≤ available) × (content ≤ size)
+Within available Cut = Unit {0}
 
-within-either : (least available : ℕ) (b : Bool) (x y : Span) → Within least available x → Within least available y →
-    Within least available (cond b x y)
-within-either least available true x y p q = p
-within-either least available false x y p q = q
+within-either : (available : ℕ) (b : Bool) (x y : Span) → Within available x → Within available y →
+    Within available (cond b x y)
+within-either available true x y p q = p
+within-either available false x y p q = q
 
-within-span : (least prefix n available : ℕ) → least ≤ prefix + n → Within least available (spanOf prefix n available)
-within-span least prefix n available h = by-test (leb (prefix + n) available) refl
+within-span : (prefix n available : ℕ) → Within available (spanOf prefix n available)
+within-span prefix n available = by-test (leb (prefix + n) available) refl
   where
-    by-test : (b : Bool) → leb (prefix + n) available ≡ b → Within least available (cond b (Whole (prefix + n) n) Cut)
-    by-test true e = (h, leb-true _ _ e, omega arith)
+    by-test : (b : Bool) → leb (prefix + n) available ≡ b → Within available (cond b (Whole (prefix + n) n) Cut)
+    by-test true e = (leb-true _ _ e, omega arith)
     by-test false e = tt
 
-within-variable : (s : List ℕ) → Within 1 (length s) (variableField s)
+within-variable : (s : List ℕ) → Within (length s) (variableField s)
 unfolding variableField
 within-variable s =
-    within-either 1 (length s) (ltb 0 (length s)) _ _
-    (within-either 1 (length s) (ltb (getD s 0 0) 255) _ _
-    (within-span 1 1 (getD s 0 0) (length s) (omega arith))
-    (within-either 1 (length s) (ltb 2 (length s)) _ _
-    (within-span 1 3 (getD s 1 0 * 256 + getD s 2 0) (length s) (omega arith))
+    within-either (length s) (ltb 0 (length s)) _ _
+    (within-either (length s) (ltb (getD s 0 0) 255) _ _
+    (within-span 1 (getD s 0 0) (length s))
+    (within-either (length s) (ltb 2 (length s)) _ _
+    (within-span 3 (getD s 1 0 * 256 + getD s 2 0) (length s))
     tt))
     tt
 
--- a field is at least its least size
-pub field-within : (s : List ℕ) (w : ℕ) (r : Reading) → Within (leastFieldSize w r) (length s) (fieldOf s w r)
+field-within : (s : List ℕ) (w : ℕ) (r : Reading) → Within (length s) (fieldOf s w r)
 unfolding fieldOf
-field-within s w r = by-kind (isVariable w r)
-  where
-    by-kind : (b : Bool) → Within (cond b 1 w) (length s) (cond b (variableField s) (spanOf 0 w (length s)))
-    by-kind true = within-variable s
-    by-kind false = within-span w 0 w (length s) (omega arith)
+field-within s w r =
+    within-either (length s) (isVariable w r) _ _ (within-variable s) (within-span 0 w (length s))
 
-within-followed : (l l′ : ℕ) (s : List ℕ) (x : Span) (next : ℕ → Span) → Within l (length s) x →
-    ((a : ℕ) → Within l′ (length (drop a s)) (next a)) → Within (l + l′) (length s) (followedBy x next)
-within-followed l l′ s (Whole a n) next p q = by-next (next a) (q a)
+within-followed : (s : List ℕ) (x : Span) (next : ℕ → Span) → Within (length s) x →
+    ((a : ℕ) → Within (length (drop a s)) (next a)) → Within (length s) (followedBy x next)
+within-followed s (Whole a n) next p q = by-next (next a) (q a)
   where
-    by-next : (y : Span) → Within l′ (length (drop a s)) y → Within (l + l′) (length s) (behind a n y)
+    by-next : (y : Span) → Within (length (drop a s)) y → Within (length s) (behind a n y)
     by-next (Whole a′ n′) h = omega (arith, length-drop a s)
     by-next Cut h = tt
-within-followed l l′ s Cut next p q = tt
+within-followed s Cut next p q = tt
 
--- fields together are at least the least size
-pub fields-within : (s ws : List ℕ) (r : Reading) → Within (leastSize ws r) (length s) (fieldsOf s ws r)
-unfolding leastSize fieldsOf
-fields-within s [] r = (omega arith, omega arith, omega arith)
+pub fields-within : (s ws : List ℕ) (r : Reading) → Within (length s) (fieldsOf s ws r)
+unfolding fieldsOf
+fields-within s [] r = (omega arith, omega arith)
 fields-within s (w ∷ ws) r =
-    within-followed (leastFieldSize w r) (leastSize ws r) s (fieldOf s w r) (λ a. fieldsOf (drop a s) ws r)
-    (field-within s w r) (λ a. fields-within (drop a s) ws r)
+    within-followed s (fieldOf s w r) (λ a. fieldsOf (drop a s) ws r) (field-within s w r)
+    (λ a. fields-within (drop a s) ws r)
 
 -- Fields behind others.
 behind-none : (x : Span) → x ≡ behind 0 0 x
@@ -103,32 +98,36 @@ behind-behind a p s n Cut = refl
 pub tail-is-drop : (at : ℕ) (xs : List ℕ) → take (length xs - at) (drop at xs) ≡ drop at xs
 tail-is-drop at xs = take-all (length xs - at) (drop at xs) (omega (arith, length-drop at xs))
 
--- The loop over the fields of a record: i fields passed, in `at` bytes with `paid` of content.
-pub record FieldsPassed (bytes ws : List ℕ) (r : Reading) (at paid i : ℕ) : Type 0 where
+-- The loop over the fields of a record: i fields passed, in `at` bytes with `content` bytes of content.
+pub record FieldsPassed (bytes ws : List ℕ) (r : Reading) (at content i : ℕ) : Type 0 where
+  -- no more fields than widths
   pub passed : i ≤ length ws
+  -- they lie within the bytes
   pub inside : at ≤ length bytes
-  pub content : paid ≤ at
-  pub left : fieldsOf bytes ws r ≡ behind at paid (fieldsOf (drop at bytes) (drop i ws) r)
+  -- a prefix is no content
+  pub no-more-content : content ≤ at
+  -- the record is what was passed, and then the fields that are left
+  pub left : fieldsOf bytes ws r ≡ behind at content (fieldsOf (drop at bytes) (drop i ws) r)
 
 pub no-field-passed : (bytes ws : List ℕ) (r : Reading) → FieldsPassed bytes ws r 0 0 0
 no-field-passed bytes ws r =
-    record { passed = omega arith; inside = omega arith; content = omega arith; left = behind-none _ }
+    record { passed = omega arith; inside = omega arith; no-more-content = omega arith; left = behind-none _ }
 
-module _ {bytes ws : List ℕ} {r : Reading} {at paid i : ℕ} (inv : FieldsPassed bytes ws r at paid i) where
+module _ {bytes ws : List ℕ} {r : Reading} {at content i : ℕ} (inv : FieldsPassed bytes ws r at content i) where
   -- the field that is called for stands at the front of the rest
   at-front : {x : Span} → x ≡ fieldOf (take (length bytes - at) (drop at bytes)) (getD ws i 0) r →
       fieldOf (drop at bytes) (getD ws i 0) r ≡ x
   at-front e = ap (λ (s : List ℕ). fieldOf s (getD ws i 0) r) (sym (tail-is-drop at bytes)) ∙ sym e
 
   next-field : {s n : ℕ} → i < length ws → fieldOf (drop at bytes) (getD ws i 0) r ≡ Whole s n →
-      behind at paid (fieldsOf (drop at bytes) (drop i ws) r)
-      ≡ behind (at + s) (paid + n) (fieldsOf (drop (at + s) bytes) (drop (i + 1) ws) r)
+      behind at content (fieldsOf (drop at bytes) (drop i ws) r)
+      ≡ behind (at + s) (content + n) (fieldsOf (drop (at + s) bytes) (drop (i + 1) ws) r)
   unfolding fieldsOf
   next-field {s} {n} h e = rw (add-one, drop-cons ws i 0, e, drop-drop s at bytes, behind-behind)
 
   pub field-passed : {x : Span} {s n : ℕ} → i < length ws →
       x ≡ fieldOf (take (length bytes - at) (drop at bytes)) (getD ws i 0) r →
-      x ≡ Whole s n → FieldsPassed bytes ws r (at + s) (paid + n) (i + 1)
+      x ≡ Whole s n → FieldsPassed bytes ws r (at + s) (content + n) (i + 1)
   field-passed h e f =
       let whole = at-front e ∙ f in
       let g = rw whole at (field-within (drop at bytes) (getD ws i 0) r) in
@@ -136,7 +135,7 @@ module _ {bytes ws : List ℕ} {r : Reading} {at paid i : ℕ} (inv : FieldsPass
       record {
         passed = omega arith;
         inside = omega arith;
-        content = omega arith;
+        no-more-content = omega arith;
         left = inv .left
             ∙ next-field h whole;
       }
@@ -147,6 +146,6 @@ module _ {bytes ws : List ℕ} {r : Reading} {at paid i : ℕ} (inv : FieldsPass
   unfolding fieldsOf
   field-cut h e f = let cut = at-front e ∙ f in inv .left ∙ rw (drop-cons ws i 0, cut)
 
-  pub all-passed : length ws ≤ i → fieldsOf bytes ws r ≡ Whole at paid
+  pub all-passed : length ws ≤ i → fieldsOf bytes ws r ≡ Whole at content
   unfolding fieldsOf
   all-passed h = inv .left ∙ rw (drop-of-length-le ws h) (ap₂ Whole (omega arith) (omega arith))

@@ -1,4 +1,4 @@
 pub mod Fields
 pub mod Records
 pub mod Fixed
-pub mod Verdicts
+pub mod Refusals

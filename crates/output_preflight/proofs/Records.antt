@@ -9,13 +9,17 @@ use lib.ListN.{length, take, drop, length-drop}
 use lib.Dec.{ltb}
 use borrow.Author.Tests.{lt-ltb, le-ltb, ltb-true}
 use Rattle.wire.specs.declared.Reading.{Reading}
-use Rattle.wire.specs.Size.{leastSize}
 use Rattle.output_preflight.specs.declared.scan.Span.{Span}
 use Rattle.output_preflight.specs.declared.scan.Span.the-variants.{Whole, Cut}
 use Rattle.output_preflight.specs.declared.scan.Scanned.{Scanned}
 use Rattle.output_preflight.specs.Scan.{fieldsOf, consuming, recordOf, recordThen, recordsFrom, more, figures}
 use Rattle.output_preflight.specs.Scan.{scanOf}
 use Rattle.output_preflight.proofs.Fields.{Within, fields-within, tail-is-drop}
+
+-- a whole span has at least one byte
+abbrev TakesSome : Span → Type 0
+TakesSome (Whole size content) = 0 < size
+TakesSome Cut = Unit {0}
 
 -- A record that takes nothing is none; any other is as its fields say.
 module _ (bytes ws : List ℕ) (r : Reading) where
@@ -31,20 +35,18 @@ module _ (bytes ws : List ℕ) (r : Reading) where
   unfolding recordOf
   cut-field e = rw e
 
-  -- a whole record takes at least one byte and at least the least size
-  pub record-within : Within (leastSize ws r) (length bytes) (recordOf bytes ws r) × Within 1 (length bytes)
-      (recordOf bytes ws r)
+  -- a whole record takes at least one byte
+  record-within : Within (length bytes) (recordOf bytes ws r) × TakesSome (recordOf bytes ws r)
   unfolding recordOf
   record-within = by-fields (fieldsOf bytes ws r) (fields-within bytes ws r)
     where
-      by-fields : (x : Span) → Within (leastSize ws r) (length bytes) x →
-          Within (leastSize ws r) (length bytes) (consuming x) × Within 1 (length bytes) (consuming x)
+      by-fields : (x : Span) → Within (length bytes) x → Within (length bytes) (consuming x) × TakesSome (consuming x)
       by-fields Cut p = (tt, tt)
       by-fields (Whole s n) p = by-size (ltb 0 s) refl
         where
-          by-size : (b : Bool) → ltb 0 s ≡ b → Within (leastSize ws r) (length bytes) (cond b
-              (Whole s n) Cut) × Within 1 (length bytes) (cond b (Whole s n) Cut)
-          by-size true e = let h = ltb-true 0 s e in (p, (omega arith, p .1, p .2))
+          by-size : (b : Bool) → ltb 0 s ≡ b →
+              Within (length bytes) (cond b (Whole s n) Cut) × TakesSome (cond b (Whole s n) Cut)
+          by-size true e = (p, ltb-true 0 s e)
           by-size false e = (tt, tt)
 
 -- two scans are equal by their figures
@@ -86,11 +88,14 @@ module _ (bytes ws : List ℕ) (r : Reading) where
   scan-whole k {s} {n} e = rw (e, length-drop s bytes) (ap (more 1 n) (place-free (0 + s) 0 (drop s bytes) ws r k
       (length bytes - s)))
 
--- The loop over the records of a body: `k` records passed with `paid` bytes of payload, and `rest` left.
-pub record RecordsPassed (body ws : List ℕ) (r : Reading) (limit : ℕ) (rest : List ℕ) (k paid : ℕ) : Type 0 where
+-- The loop over the records of a body: `k` records passed with `payload` bytes of payload, and `rest` left.
+pub record RecordsPassed (body ws : List ℕ) (r : Reading) (limit : ℕ) (rest : List ℕ) (k payload : ℕ) : Type 0 where
+  -- no more records than the limit
   pub few : k ≤ limit
-  pub inside : paid + length rest ≤ length body
-  pub left : scanOf body ws r limit ≡ more k paid (scanOf rest ws r (limit - k))
+  -- payload and rest are different bytes of the body
+  pub inside : payload + length rest ≤ length body
+  -- the scan is what was passed, and then the scan of the rest
+  pub left : scanOf body ws r limit ≡ more k payload (scanOf rest ws r (limit - k))
 
 pub no-record-passed : (body ws : List ℕ) (r : Reading) (limit : ℕ) → RecordsPassed body ws r limit body 0 0
 no-record-passed body ws r limit =
@@ -101,17 +106,17 @@ no-record-passed body ws r limit =
           (omega arith) refl);
     }
 
-module _ {body ws : List ℕ} {r : Reading} {limit : ℕ} {rest : List ℕ} {k paid : ℕ}
-    (inv : RecordsPassed body ws r limit rest k paid) where
+module _ {body ws : List ℕ} {r : Reading} {limit : ℕ} {rest : List ℕ} {k payload : ℕ}
+    (inv : RecordsPassed body ws r limit rest k payload) where
   one-less : k < limit → limit - k ≡ suc (limit - (k + 1))
   one-less h = omega arith
 
-  pub record-bounds : {s n : ℕ} → recordOf rest ws r ≡ Whole s n →
-      (s ≤ length rest) × (paid + n + (length rest - s) ≤ length body)
-  record-bounds e = let h = rw e at (record-within rest ws r .1) in omega arith
+  record-bounds : {s n : ℕ} → recordOf rest ws r ≡ Whole s n →
+      (s ≤ length rest) × (payload + n + (length rest - s) ≤ length body)
+  record-bounds e = let h = rw e at (record-within rest ws r .0) in omega arith
 
   pub record-passed : {s n : ℕ} → k < limit → recordOf rest ws r ≡ Whole s n →
-      RecordsPassed body ws r limit (take (length rest - s) (drop s rest)) (k + 1) (paid + n)
+      RecordsPassed body ws r limit (take (length rest - s) (drop s rest)) (k + 1) (payload + n)
   record-passed {s} {n} h e =
       let g = record-bounds e in
       rw (tail-is-drop s rest)
@@ -123,21 +128,22 @@ module _ {body ws : List ℕ} {r : Reading} {limit : ℕ} {rest : List ℕ} {k p
       })
 
   pub stopped : k < limit → recordOf rest ws r ≡ Cut →
-      scanOf body ws r limit ≡ record { records = k; payload = paid; remainder = length rest }
+      scanOf body ws r limit ≡ record { records = k; payload = payload; remainder = length rest }
   stopped h e = inv .left ∙ rw (one-less h, scan-cut rest ws r (limit - (k + 1)) e) (same-figures (omega arith)
       (omega arith) refl)
 
-  pub at-limit : limit ≤ k → scanOf body ws r limit ≡ record { records = k; payload = paid; remainder = length rest }
+  pub at-limit : limit ≤ k → scanOf body ws r limit
+      ≡ record { records = k; payload = payload; remainder = length rest }
   at-limit h = let z : limit - k ≡ 0 = omega arith in inv .left
       ∙ rw (z, scan-none rest ws r) (same-figures (omega arith) (omega arith) refl)
 
 -- no more records than bytes
-pub records-few : (bytes ws : List ℕ) (r : Reading) (k : ℕ) → scanOf bytes ws r k .records ≤ length bytes
+records-few : (bytes ws : List ℕ) (r : Reading) (k : ℕ) → scanOf bytes ws r k .records ≤ length bytes
 records-few bytes ws r zero = rw (scan-none bytes ws r) (omega arith)
-records-few bytes ws r (suc k) = by-record (recordOf bytes ws r) refl (record-within bytes ws r .1)
+records-few bytes ws r (suc k) = by-record (recordOf bytes ws r) refl (record-within bytes ws r)
     (λ s. records-few (drop s bytes) ws r k)
   where
-    by-record : (x : Span) → recordOf bytes ws r ≡ x → Within 1 (length bytes) x →
+    by-record : (x : Span) → recordOf bytes ws r ≡ x → Within (length bytes) x × TakesSome x →
         ((s : ℕ) → scanOf (drop s bytes) ws r k .records ≤ length (drop s bytes)) →
         scanOf bytes ws r (suc k) .records ≤ length bytes
     by-record (Whole s n) e p ih = rw (scan-whole bytes ws r k e) (omega (arith, ih s, length-drop s bytes))

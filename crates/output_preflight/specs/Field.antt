@@ -1,5 +1,5 @@
 -- A field at the front of the bytes (RFC 7011, section 7).
-use mathlib.Core.Bool.{Bool, cond}
+use mathlib.Core.Bool.{cond}
 use mathlib.Core.List.{List}
 use Prim.Native.Nat.{ℕ, _+_, _*_}
 use lib.ListN.{length, getD}

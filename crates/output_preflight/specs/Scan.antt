@@ -1,5 +1,5 @@
 -- The whole records at the front of a body, in any of the three readings (document 01, "Framing and cost").
-use mathlib.Core.Bool.{Bool, cond}
+use mathlib.Core.Bool.{cond}
 use mathlib.Core.List.{List, [], _∷_}
 use Prim.Native.Nat.{ℕ, zero, suc, _+_, _*_, _-_, _/_, min}
 use lib.ListN.{length, drop}
@@ -30,7 +30,8 @@ abbrev pub consuming : Span → Span
 consuming (Whole s n) = cond (ltb 0 s) (Whole s n) Cut
 consuming Cut = Cut
 
--- a whole record at the front of the bytes: one that takes nothing is none
+-- a whole record at the front of the bytes. One that takes nothing is none, as in the Rust's `scan_variable_record`: it has
+-- least size 0, so no answer depends on it, and the scan is bounded by the body
 unfoldable pub recordOf : List ℕ → List ℕ → Reading → Span
 recordOf bytes ws r = consuming (fieldsOf bytes ws r)
 
@@ -51,6 +52,7 @@ recordsFrom at bytes ws r zero = []
 recordsFrom at bytes ws r (suc k) = recordThen at (recordOf bytes ws r) (λ s. recordsFrom (at + s)
     (drop s bytes) ws r k)
 
+-- the whole records of a body
 abbrev pub recordsOf : List ℕ → List ℕ → Reading → ℕ → List RecordSpan
 recordsOf body ws r limit = recordsFrom 0 body ws r limit
 
@@ -70,6 +72,6 @@ scanOf body ws r limit = figures (recordsOf body ws r limit) (length body)
 -- the same figures where every record has one size, from the body's length alone: "records are the whole ones, at most
 -- the record limit"
 abbrev pub fixedScanOf : ℕ → ℕ → ℕ → Scanned
-fixedScanOf count size limit =
-    let k = min (count / size) limit in
-    record { records = k; payload = k * size; remainder = count - k * size }
+fixedScanOf bodyLength size limit =
+    let k = min (bodyLength / size) limit in
+    record { records = k; payload = k * size; remainder = bodyLength - k * size }

@@ -1,17 +1,14 @@
 // The framing of a queued data-set body, and what decoding it would cost, before it is decoded (output_budget.rs).
 mod scan;
 
-pub use scan::Scanned;
-pub use scan::Span;
-pub use scan::field;
-pub use scan::scan_fixed_body;
-pub use scan::scan_variable_body;
 ghost use mathlib.Core.Path.{_≡_};
 ghost use Prim.Native.Nat.{_≤_, _<_};
-ghost use lib.ListN.{length};
 ghost use Rattle.wire.specs.Size.{leastSize};
 ghost use Rattle.output_preflight.specs.Scan.{scanOf};
-ghost use Rattle.output_preflight.specs.Preflight.{numberOf, answerOf, judged, preflightOf};
+ghost use Rattle.output_preflight.specs.Preflight.{numberOf, answerOf, figuresOf, costOf, preflightOf};
+use scan::Scanned;
+use scan::scan_fixed_body;
+use scan::scan_variable_body;
 use wire::Reading;
 
 // A count of decoded field values.
@@ -31,12 +28,13 @@ pub struct PendingOutputPreflight {
 pub enum Refusal {
     // the record limit is 0
     ZeroRecordLimit,
-    // the body or the width list is longer than any data set's
+    // the body is over 65,531 bytes, or there are over 65,535 widths
     Oversized,
     // the body has no valid framing
     Invalid,
 }
 
+// What a preflight finds.
 pub enum PreflightAnswer {
     Valid(PendingOutputPreflight),
     Refused(Refusal),
@@ -53,9 +51,43 @@ pub fn refusal_number(refusal: Refusal) -> u32
     }
 }
 
+// An answer in numbers: document 01's number, 0 for a cost, and the values, which are 0 in a refusal.
+pub struct Figures {
+    pub number: u64,
+    pub values: u64,
+    pub payload: u64,
+    pub remainder: u64,
+}
+
+// The numbers of an answer.
+pub fn answer_figures(answer: PreflightAnswer) -> Figures
+    ensures { λ r. ⌜ r ≡ figuresOf (answerOf answer) ⌝ }
+{
+    match answer {
+        PreflightAnswer::Valid(cost) => {
+            let values = cost.field_values.0;
+            let payload = cost.field_payload_bytes.0;
+            let remainder = cost.remainder_len;
+            Figures {
+                number: 0,
+                values: values as u64,
+                payload: payload as u64,
+                remainder: remainder as u64,
+            }
+        }
+        PreflightAnswer::Refused(refusal) => Figures {
+            number: refusal_number(refusal) as u64,
+            values: 0,
+            payload: 0,
+            remainder: 0,
+        },
+    }
+}
+
 // The longest body of a data set: a 16-bit length, less the 4-byte header.
 const MAX_BODY_LEN: usize = 65531;
 
+// The most fields of a template: a 16-bit count.
 const MAX_WIDTHS: usize = 65535;
 
 // The whole records of a body. `least` is the least size of a record, above 0.
@@ -77,9 +109,9 @@ fn scan_body(
 }
 
 // A scan's cost, where the body is complete: `fields` fields a record.
-fn judge(scanned: Scanned, fields: usize, least: usize, reading: Reading) -> PreflightAnswer
+fn cost_of(scanned: Scanned, fields: usize, least: usize, reading: Reading) -> PreflightAnswer
     requires { ⌜ (fields ≤ 65535) × (scanned .records ≤ 65531) ⌝ }
-    ensures { λ r. ⌜ answerOf r ≡ judged scanned fields least reading ⌝ }
+    ensures { λ r. ⌜ answerOf r ≡ costOf scanned fields least reading ⌝ }
 {
     let remainder_len = scanned.remainder;
     let records = scanned.records;
@@ -117,5 +149,5 @@ pub fn preflight(
         return PreflightAnswer::Refused(Refusal::Invalid);
     }
     let scanned = scan_body(body, widths, least, reading, max_records);
-    judge(scanned, widths.len(), least, reading)
+    cost_of(scanned, widths.len(), least, reading)
 }

@@ -63,7 +63,7 @@ pub fn field(bytes: &[u8], width: u16) -> Span
 }
 
 // The whole records of a body in the variable reading, at most `max_records`. A cut field, or a record that takes
-// nothing, ends the scan before its record.
+// nothing, ends the scan before its record: it leaves the loop 'records, and not 'fields alone.
 pub fn scan_variable_body(body: &[u8], widths: &[u16], max_records: usize) -> Scanned
     ensures { λ r. ⌜ r ≡ scanOf (now (body .entry)) (now (widths .entry)) IpfixVariable «max_records» ⌝ }
 {

@@ -6,7 +6,6 @@ pub use chunk::fill;
 pub use chunk::move_to_front;
 pub use chunk::whole_lines;
 pub use tally::Tally;
-ghost use mathlib.Core.Path.{_≡_};
 ghost use Prim.Native.Nat.{_<_, _≤_};
 ghost use lib.ListN.{length};
 ghost use Rattle.recorded.specs.Progress.{Onward};
@@ -18,7 +17,7 @@ pub struct Number {
 }
 
 // A replay reads at most so many buffers.
-pub const BUFFERS: usize = 4096;
+pub const BUFFERS: usize = 65536;
 
 const MOST: u64 = 18446744073709551615;
 

@@ -1,7 +1,9 @@
-// Runs the preflight on a recorded list and compares: each row has its arguments and the answer, as decimal numbers
+// Runs the preflight on the list that `oracle record-framing` wrote, and compares: each row has its arguments and the
+// Rust's answer, as decimal numbers
 //     reading max_records n w1 .. wn m b1 .. bm number values payload remainder
 // with reading 0 (v9 fixed), 1 (IPFIX fixed) or 2 (IPFIX variable), and 0 for what a refusal does not give.
-use output_preflight::PreflightAnswer;
+use output_preflight::Figures;
+use output_preflight::answer_figures;
 use recorded::BUFFERS;
 use recorded::Tally;
 use recorded::fill;
@@ -13,19 +15,12 @@ use wire::Reading;
 ghost use Prim.Native.Nat.{_≤_};
 ghost use mathlib.Core.Path.{_≡_};
 ghost use lib.ListN.{length};
+ghost use Rattle.replay_preflight.specs.Same.{sameFigures};
 
 // A row's end in the text, and whether the answer is the recorded one.
 struct Compared {
     next: usize,
     same: bool,
-}
-
-// An answer in numbers.
-struct Figures {
-    number: u64,
-    values: u64,
-    payload: u64,
-    remainder: u64,
 }
 
 // Room for the widths and the body of a row.
@@ -41,33 +36,12 @@ fn body_room() -> [u8; 1024]
     [0; 1024]
 }
 
+// The reading with a number of the list.
 fn reading_of(n: u64) -> Reading {
     match n {
         0 => Reading::V9Fixed,
         1 => Reading::IpfixFixed,
         _ => Reading::IpfixVariable,
-    }
-}
-
-fn figures_of(answer: PreflightAnswer) -> Figures {
-    match answer {
-        PreflightAnswer::Valid(cost) => {
-            let values = cost.field_values.0;
-            let payload = cost.field_payload_bytes.0;
-            let remainder = cost.remainder_len;
-            Figures {
-                number: 0,
-                values: values as u64,
-                payload: payload as u64,
-                remainder: remainder as u64,
-            }
-        }
-        PreflightAnswer::Refused(refusal) => Figures {
-            number: output_preflight::refusal_number(refusal) as u64,
-            values: 0,
-            payload: 0,
-            remainder: 0,
-        },
     }
 }
 
@@ -103,25 +77,37 @@ fn read_body(text: &[u8], at: usize, n: usize, body: &mut [u8]) -> usize {
     at
 }
 
-// Whether the numbers from `at` on are the answer.
-fn compare(text: &[u8], at: usize, expected: Figures) -> Compared {
+// Whether two answers are the same, figure by figure.
+fn same_figures(a: Figures, b: Figures) -> bool
+    ensures { λ r. ⌜ r ≡ sameFigures a b ⌝ }
+{
+    if a.number != b.number {
+        return false;
+    }
+    if a.values != b.values {
+        return false;
+    }
+    if a.payload != b.payload {
+        return false;
+    }
+    a.remainder == b.remainder
+}
+
+// Compares an answer with the one recorded from `at` on.
+fn compare(text: &[u8], at: usize, got: Figures) -> Compared {
     let number = next_number(text, at);
     let values = next_number(text, number.next);
     let payload = next_number(text, values.next);
     let remainder = next_number(text, payload.next);
-    let mut same = number.value == expected.number;
-    if values.value != expected.values {
-        same = false;
-    }
-    if payload.value != expected.payload {
-        same = false;
-    }
-    if remainder.value != expected.remainder {
-        same = false;
-    }
+    let recorded = Figures {
+        number: number.value,
+        values: values.value,
+        payload: payload.value,
+        remainder: remainder.value,
+    };
     Compared {
         next: remainder.next,
-        same,
+        same: same_figures(got, recorded),
     }
 }
 
@@ -142,9 +128,10 @@ fn run_preflight(
     }
     let body = &body[..body_len];
     let widths = &widths[..fields];
-    figures_of(output_preflight::preflight(body, widths, reading_of(reading), limit as usize))
+    answer_figures(output_preflight::preflight(body, widths, reading_of(reading), limit as usize))
 }
 
+// No answer has this number: the row differs.
 fn no_room() -> Figures {
     Figures {
         number: 255,
@@ -198,7 +185,15 @@ fn run_lines(buffer: &[u8], lines: usize, tally: Tally) -> Tally
     run_rows(&buffer[..lines], tally)
 }
 
+// A right row, and one that is wrong in each figure: a comparison that notices nothing would show here.
+fn run_wrong_rows() {
+    let rows =
+        b"0 9 1 1 1 5 0 1 1 0\n0 9 1 1 1 5 7 1 1 0\n0 9 1 1 1 5 0 2 1 0\n0 9 1 1 1 5 0 1 2 0\n0 9 1 1 1 5 0 1 1 1\n";
+    run_rows(rows, Tally::new()).print();
+}
+
 fn main() {
+    run_wrong_rows();
     let mut room = io::large_buffer();
     let buffer: &mut [u8] = &mut room;
     let mut tally = Tally::new();

@@ -1,3 +1,5 @@
 pub mod Layout
 pub mod Table
 pub mod WellFormed
+pub mod Passes
+pub mod Reads

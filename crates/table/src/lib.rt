@@ -1,4 +1,22 @@
 // The cache's table in the lent words: a header, entries for bodies, records for templates (docs/LAYOUT.md).
+mod check;
+mod layout;
+mod reads;
+
+pub use check::well_formed;
+pub use layout::CACHED;
+pub use layout::CHANCE_COUNT;
+pub use layout::DROPPED;
+pub use layout::ENTRY_COUNT;
+pub use layout::HELD_COUNT;
+pub use layout::TOTAL;
+pub use layout::entry_at;
+pub use layout::limits_at;
+pub use layout::record_at;
+pub use layout::records_at;
+pub use reads::label_of;
+pub use reads::live_count;
+pub use reads::nth_of;
 
 // A body: its template's label, its place and length in the byte area, and the clock reading of its offer.
 pub struct Entry {
@@ -13,6 +31,18 @@ pub struct TemplateRecord {
     pub key: u64,
     pub label: u64,
     pub count: u64,
+}
+
+// The label of a template that is looked for.
+pub enum LabelFound {
+    At(u64),
+    Nothing,
+}
+
+// An entry that is looked for.
+pub enum EntryFound {
+    At(Entry),
+    Nothing,
 }
 
 // Every label is below this.

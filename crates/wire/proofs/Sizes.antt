@@ -11,7 +11,7 @@ use Rattle.wire.specs.declared.Reading.{Reading}
 use Rattle.wire.specs.Size.{isVariable, leastFieldSize, leastSize}
 
 -- a width of 16 bits has a least size of at most 65,535
-pub least-field-bound : (w : ℕ) (r : Reading) → w < 65536 → leastFieldSize w r ≤ 65535
+least-field-bound : (w : ℕ) (r : Reading) → w < 65536 → leastFieldSize w r ≤ 65535
 least-field-bound w r h = by-kind (isVariable w r)
   where
     by-kind : (b : Bool) → cond b 1 w ≤ 65535
@@ -26,8 +26,11 @@ some-width (w ∷ ws) r h = omega arith
 
 -- The loop over the widths: the first i of them sum to `sum`.
 pub record Summed (ws : List ℕ) (r : Reading) (i sum : ℕ) : Type 0 where
+  -- no more fields than widths
   pub passed : i ≤ length ws
+  -- each is at most 65,535
   pub small : sum ≤ 65535 * i
+  -- the least size is the sum, and then the fields that are left
   pub left : leastSize ws r ≡ sum + leastSize (drop i ws) r
 
 pub summed-none : (ws : List ℕ) (r : Reading) → Summed ws r 0 0

@@ -1,5 +1,5 @@
 -- The least size of a record (document 01, "Framing and cost"; RFC 7011 section 7).
-use mathlib.Core.Bool.{Bool, true, false, cond}
+use mathlib.Core.Bool.{Bool, false, cond}
 use mathlib.Core.List.{List, [], _∷_}
 use Prim.Native.Nat.{ℕ, _+_}
 use lib.Dec.{eqb}

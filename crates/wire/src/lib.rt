@@ -2,9 +2,8 @@
 ghost use mathlib.Core.Path.{_≡_};
 ghost use Prim.Native.Nat.{_≤_};
 ghost use lib.ListN.{length};
-ghost use lib.Dec.{ltb};
 ghost use Rattle.wire.specs.Size.{leastFieldSize, leastSize};
-ghost use Rattle.wire.specs.Padding.{v9Padding, isPadding, isComplete};
+ghost use Rattle.wire.specs.Padding.{shortPadding, v9Padding, isComplete};
 
 // How the widths of a template are read.
 pub enum Reading {
@@ -17,7 +16,7 @@ pub enum Reading {
 }
 
 // The fewest bytes that a field of this width takes: its width, or the one-byte prefix of a variable-length field.
-pub fn minimum_field_size(width: u16, reading: Reading) -> usize
+fn minimum_field_size(width: u16, reading: Reading) -> usize
     ensures { λ r. ⌜ r ≡ leastFieldSize width reading ⌝ }
 {
     match reading {
@@ -43,14 +42,14 @@ pub fn minimum_record_size(widths: &[u16], reading: Reading) -> usize
 }
 
 // Padding is shorter than a record.
-pub fn is_short_padding(padding_len: usize, minimum_record_size: usize) -> bool
-    ensures { λ r. ⌜ r ≡ ltb «padding_len» «minimum_record_size» ⌝ }
+fn is_short_padding(padding_len: usize, minimum_record_size: usize) -> bool
+    ensures { λ r. ⌜ r ≡ shortPadding «padding_len» «minimum_record_size» ⌝ }
 {
     padding_len < minimum_record_size
 }
 
 // NetFlow v9 pads to a multiple of four, so by at most three bytes.
-pub fn is_v9_padding(padding_len: usize, minimum_record_size: usize) -> bool
+fn is_v9_padding(padding_len: usize, minimum_record_size: usize) -> bool
     ensures { λ r. ⌜ r ≡ v9Padding «padding_len» «minimum_record_size» ⌝ }
 {
     if padding_len <= 3 {

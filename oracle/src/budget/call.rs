@@ -85,14 +85,10 @@ impl Call {
     }
 }
 
-pub fn preflight_number(preflight: Preflight) -> u32 {
-    if preflight.is_some() { DONE } else { INVALID }
-}
-
 fn preflight_words(call: u64, preflight: Preflight, report: u64) -> [u64; 8] {
     let [values, payload, remainder] = preflight.unwrap_or_default();
-    let number = u64::from(preflight_number(preflight));
-    [call, number, values, payload, remainder, report, 0, 0]
+    let number = if preflight.is_some() { DONE } else { INVALID };
+    [call, u64::from(number), values, payload, remainder, report, 0, 0]
 }
 
 /// Document 01's number, and up to three values beside it, unused ones 0.

@@ -8,7 +8,7 @@ const USES: [u64; 6] = [0, 1, 2, 3, END - 1, END];
 const AMOUNTS: [u64; 7] = [0, 1, 2, 3, 4, END - 1, END];
 
 /// Visits sequences that open a budget, bring it to some use and excess, and make one call.
-pub fn for_each_sequence(mut visit: impl FnMut(&[Call])) {
+pub fn for_each_sequence<E>(mut visit: impl FnMut(&[Call]) -> Result<(), E>) -> Result<(), E> {
     let calls = calls();
     for (max_values, max_payload) in pairs(&LIMITS) {
         for (values, payload) in pairs(&USES) {
@@ -23,11 +23,12 @@ pub fn for_each_sequence(mut visit: impl FnMut(&[Call])) {
                 Call::Reserve { values: 0, payload: END },
             ] {
                 for &call in &calls {
-                    visit(&[open, fill, exceed, call]);
+                    visit(&[open, fill, exceed, call])?;
                 }
             }
         }
     }
+    Ok(())
 }
 
 fn pairs(figures: &[u64]) -> impl Iterator<Item = (u64, u64)> + '_ {

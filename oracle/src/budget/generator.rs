@@ -11,16 +11,15 @@ pub enum Departures {
     LeftOut,
 }
 
-pub struct Generator<'a> {
+pub struct Generator {
     pub random: Random,
     pub departures: Departures,
-    pub reports: &'a [Report],
 }
 
 /// The budget's words, of which the first four steer what is drawn.
 type State = [u64; 7];
 
-impl Generator<'_> {
+impl Generator {
     /// A sequence begins with this.
     pub fn opening(&mut self) -> Call {
         let (values, payload) = self.limit_pair();
@@ -132,7 +131,7 @@ impl Generator<'_> {
 
     fn materialize(&mut self, state: &State) -> Call {
         let preflight = self.preflight(state);
-        let mut report = self.random.pick(self.reports);
+        let mut report = self.random.pick(&Report::ALL);
         let has_words = report.words(preflight.unwrap_or_default()).is_some();
         // Half of them as the preflight said, or the budget would seldom fill.
         if self.random.percent(50) || (report != Report::Failure && !has_words) {

@@ -12,7 +12,8 @@ use std::process::ExitCode;
 const SEED: u64 = 1;
 const ROWS: usize = 6_000;
 
-/// The replaying program reads its whole input into one area.
+/// The list is part of the repository, so it is kept small. The replaying program would take
+/// more: it reads a buffer of 65,536 bytes at a time, and only a row must be shorter than that.
 const LARGEST_FILE: usize = 1_000_000;
 
 const SIZES: Sizes = Sizes {

@@ -1,6 +1,5 @@
 //! The ported functions of libnetflow_pending.a, with Rust's types around them.
 
-pub mod budget;
 pub mod framing;
 mod functions;
 

@@ -1,5 +1,5 @@
 use Rattle.output_preflight.proofs.Records.{scanned-few}
-use Rattle.output_preflight.proofs.Verdicts.{no-record-limit, long-body, many-widths, no-size, judged-by-scan}
+use Rattle.output_preflight.proofs.Refusals.{no-record-limit, long-body, many-widths, no-size, cost-by-scan}
 use borrow.Author.Needs.{needs}
 use Rattle.output_preflight.proofs.preflight.Statement.{statement}
 use Rattle.output_preflight.proofs.preflight.Tie as tie
@@ -22,11 +22,11 @@ returns-4 c = search (no-size, needs)
 scan-body-requires : tie.Need-scan-body-requires
 scan-body-requires c κs = search needs
 
-judge-requires : tie.Need-judge-requires
-judge-requires c κs = search (scanned-few, needs)
+cost-of-requires : tie.Need-cost-of-requires
+cost-of-requires c κs = search (scanned-few, needs)
 
 returns-5 : tie.Need-returns-5
-returns-5 c = search (judged-by-scan, needs)
+returns-5 c = search (cost-by-scan, needs)
 
 pub preflight-spec : {M : Type 1} → statement M
 preflight-spec =
@@ -38,5 +38,5 @@ preflight-spec =
     minimum-record-size-requires
     returns-4
     scan-body-requires
-    judge-requires
+    cost-of-requires
     returns-5)

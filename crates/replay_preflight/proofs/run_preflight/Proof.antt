@@ -27,8 +27,8 @@ reading-of-requires c κs = search needs
 preflight-requires : tie.Need-preflight-requires
 preflight-requires c κs = search needs
 
-figures-of-requires : tie.Need-figures-of-requires
-figures-of-requires c κs = search needs
+answer-figures-requires : tie.Need-answer-figures-requires
+answer-figures-requires c κs = search needs
 
 returns-3 : tie.Need-returns-3
 returns-3 c = search needs
@@ -45,5 +45,5 @@ run-preflight-spec =
     slice-aggregate-widths
     reading-of-requires
     preflight-requires
-    figures-of-requires
+    answer-figures-requires
     returns-3)

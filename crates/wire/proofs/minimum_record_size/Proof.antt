@@ -24,24 +24,19 @@ shared-slice-read-width c = search needs
 minimum-field-size-requires : tie.Need-minimum-field-size-requires Inv-loop μ-loop
 minimum-field-size-requires c κs = search needs
 
+loop-again : tie.Need-loop-again Inv-loop μ-loop
+loop-again c = summed-more (c .before .before .before .loop .inv) (c .before .before .loop-test .taken) (omega
+    (arith, c .before .shared-slice-known2 .given (c .before .before .before .loop .i)))
+    (c .minimum-field-size .ensures)
+
 add-sum : tie.Need-add-sum Inv-loop μ-loop
-add-sum c = omega (
-  arith,
-  summed-more (c .before .before .before .loop .inv) (c .before .before .loop-test .taken)
-      (omega (arith, c .before .shared-slice-known2 .given (c .before .before .before .loop .i)))
-      (c .minimum-field-size .ensures),
-)
+add-sum c = omega (arith, loop-again c)
 
 add-i : tie.Need-add-i Inv-loop μ-loop
 add-i c = search needs
 
 loop-less : tie.Need-loop-less Inv-loop μ-loop
 loop-less c = search needs
-
-loop-again : tie.Need-loop-again Inv-loop μ-loop
-loop-again c = summed-more (c .before .before .before .loop .inv) (c .before .before .loop-test .taken) (omega
-    (arith, c .before .shared-slice-known2 .given (c .before .before .before .loop .i)))
-    (c .minimum-field-size .ensures)
 
 returns : tie.Need-returns Inv-loop μ-loop
 returns c = search (summed-all, needs)

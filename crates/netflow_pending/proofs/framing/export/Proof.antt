@@ -13,7 +13,7 @@ refusal-number-requires : tie.Need-refusal-number-requires
 refusal-number-requires c κs = search needs
 
 returns : tie.Need-returns
-returns c = rw (c .before .before .answer .given .1) (record { number = refl; cost = refl })
+returns c = rw (c .before .before .answer .given .1) (record { returned = refl; written = refl })
 
 returns-2 : tie.Need-returns-2
 returns-2 c = search needs

@@ -1,0 +1,4 @@
+pub mod Told
+pub mod Limits
+pub mod Budget
+pub mod Pending

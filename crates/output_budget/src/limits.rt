@@ -1,0 +1,66 @@
+// The limits of one message's decoded output.
+use crate::budget::DecodedOutputBudget;
+use output_preflight::FieldValues;
+use output_preflight::PayloadBytes;
+ghost use mathlib.Core.Path.{_≡_};
+ghost use Rattle.output_budget.specs.Limits.{toldOfLimits, limitsTold};
+ghost use Rattle.output_budget.specs.Budget.{opened};
+
+// The most field values that one message decodes to, unless configured.
+pub const DEFAULT_MAX_DECODED_FIELD_VALUES_PER_MESSAGE: usize = 65536;
+
+// The most field payload bytes that one message decodes to, unless configured.
+pub const DEFAULT_MAX_DECODED_FIELD_PAYLOAD_BYTES_PER_MESSAGE: usize = 4194304;
+
+// The limits of one body: records, field values and payload bytes, none of them 0.
+pub struct DecodedOutputLimits {
+    pub max_records: usize,
+    pub max_field_values: FieldValues,
+    pub max_field_payload_bytes: PayloadBytes,
+}
+
+// Which limit is 0.
+pub enum LimitsRefusal {
+    ZeroRecords,
+    ZeroFieldValues,
+    ZeroPayloadBytes,
+}
+
+// What the limits call answers.
+pub enum LimitsAnswer {
+    Accepted(DecodedOutputLimits),
+    Refused(LimitsRefusal),
+}
+
+impl DecodedOutputLimits {
+    // The three limits, unless one of them is 0.
+    pub fn new(
+        max_records: usize,
+        max_field_values: FieldValues,
+        max_field_payload_bytes: PayloadBytes,
+    ) -> LimitsAnswer
+        ensures { λ r. ⌜ toldOfLimits r ≡ limitsTold «max_records» «max_field_values» «max_field_payload_bytes» ⌝ }
+    {
+        if max_records == 0 {
+            return LimitsAnswer::Refused(LimitsRefusal::ZeroRecords);
+        }
+        if max_field_values.0 == 0 {
+            return LimitsAnswer::Refused(LimitsRefusal::ZeroFieldValues);
+        }
+        if max_field_payload_bytes.0 == 0 {
+            return LimitsAnswer::Refused(LimitsRefusal::ZeroPayloadBytes);
+        }
+        LimitsAnswer::Accepted(DecodedOutputLimits {
+            max_records,
+            max_field_values,
+            max_field_payload_bytes,
+        })
+    }
+
+    // An unused budget with these limits.
+    pub fn budget(self) -> DecodedOutputBudget
+        ensures { λ r. ⌜ r ≡ opened (self .«max_field_values») (self .«max_field_payload_bytes») ⌝ }
+    {
+        DecodedOutputBudget::new(self.max_field_values, self.max_field_payload_bytes)
+    }
+}

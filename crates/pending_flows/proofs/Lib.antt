@@ -1,0 +1,5 @@
+pub mod Openings
+pub mod Templates
+pub mod Questions
+pub mod Weights
+pub mod Figures

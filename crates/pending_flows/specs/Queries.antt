@@ -1,0 +1,35 @@
+-- What the queries promise. They change nothing: both areas are only read.
+use mathlib.Core.Bool.{true, false}
+use mathlib.Core.Option.{Option, none, some}
+use Rattle.cache_model.specs.Cache.{Cache, Figures, Answer, number, says, tells}
+use Rattle.pending_flows.specs.declared.queries.AcceptAnswer.{AcceptAnswer}
+use Rattle.pending_flows.specs.declared.queries.AcceptAnswer.the-variants as Accept
+use Rattle.pending_flows.specs.declared.queries.CacheFigures.{CacheFigures}
+use Rattle.pending_flows.specs.declared.queries.FiguresAnswer.{FiguresAnswer}
+use Rattle.pending_flows.specs.declared.queries.FiguresAnswer.the-variants as Figured
+
+-- a question asked of areas: 28 where they hold no well-formed cache
+abbrev pub asked : (Cache → Answer) → Option Cache → Answer
+asked question none = number 28
+asked question (some c) = question c
+
+-- document 01's answer of each case of `would_accept`
+abbrev pub acceptAnswer : AcceptAnswer → Answer
+acceptAnswer Accept.Yes = says true
+acceptAnswer Accept.No = says false
+acceptAnswer Accept.Damaged = number 28
+
+-- of the figures
+abbrev pub figuresRecord : CacheFigures → Figures
+figuresRecord f = record {
+  templates = f .templates;
+  bodies = f .bodies;
+  bytes = f .bytes;
+  cached = f .cached;
+  dropped = f .dropped;
+  handed = f .handed;
+}
+
+abbrev pub figuresAnswer : FiguresAnswer → Answer
+figuresAnswer (Figured.At f) = tells (figuresRecord f)
+figuresAnswer Figured.Damaged = number 28

@@ -1,0 +1,136 @@
+// The queries.
+ghost use mathlib.Core.Path.{_≡_};
+ghost use mathlib.Core.Bool.{true};
+ghost use lib.ListN.{length};
+ghost use Rattle.table.specs.Layout.{limitsOf};
+ghost use Rattle.table.specs.Table.{tableOf};
+ghost use Rattle.table.specs.Reads.{countSum};
+ghost use Rattle.table.specs.WellFormed.{wellFormed};
+ghost use Rattle.cache_model.specs.Cache.{says, tells};
+ghost use Rattle.cache_model.specs.Queries.{wouldAccept, figures};
+ghost use Rattle.pending_flows.specs.View.{areasOf, cacheOf, view};
+ghost use Rattle.pending_flows.specs.Queries.{asked, acceptAnswer, figuresRecord, figuresAnswer};
+ghost use Rattle.pending_flows.specs.Live.{liveOf};
+use config::PendingFlowsConfig;
+use config::RECORD_WORDS;
+use table::CACHED;
+use table::CHANCE_COUNT;
+use table::DROPPED;
+use table::ENTRY_COUNT;
+use table::HELD_COUNT;
+use table::LabelFound;
+use table::TOTAL;
+use table::label_of;
+use table::limits_at;
+use table::live_count;
+use table::record_at;
+use table::records_at;
+
+// What `would_accept` answers.
+pub enum AcceptAnswer {
+    Yes,
+    No,
+    // number 28
+    Damaged,
+}
+
+// How many of this id's bodies are not expired.
+fn live_of(words: &[u64], bytes: &[u8], limits: PendingFlowsConfig, id: u64, clock: u64) -> usize
+    requires { ⌜ (wellFormed (now words) (length (now bytes)) ≡ true) × (limits ≡ tableOf (now words) .limits) ⌝ }
+    ensures { λ r. ⌜ r ≡ liveOf id clock (cacheOf (tableOf (now (words .entry))) (now (bytes .entry))) ⌝ }
+{
+    let held = words[HELD_COUNT] as usize;
+    let entries = words[ENTRY_COUNT] as usize;
+    let LabelFound::At(label) = label_of(words, records_at(limits), held, id) else {
+        return 0;
+    };
+    let ttl = limits.ttl;
+    live_count(words, entries, label, ttl, clock)
+}
+
+// Whether a well-formed cache would accept a body of this id and length at this clock reading.
+fn accepts(words: &[u64], bytes: &[u8], id: u64, len: usize, clock: u64) -> bool
+    requires { ⌜ wellFormed (now words) (length (now bytes)) ≡ true ⌝ }
+    ensures { λ r. ⌜ r ≡ wouldAccept id len clock (cacheOf (tableOf (now (words .entry))) (now (bytes .entry))) ⌝ }
+{
+    let limits = limits_at(words);
+    if limits.max_entry_size_bytes < len {
+        return false;
+    }
+    if limits.max_total_bytes < len {
+        return false;
+    }
+    live_of(words, bytes, limits, id, clock) < limits.max_entries_per_template
+}
+
+// Whether an offer would be accepted: yes binds an offer of this id and length at this clock reading, no does not.
+pub fn would_accept(words: &[u64], bytes: &[u8], id: u16, len: usize, clock: u64) -> AcceptAnswer
+    ensures { λ r.
+        ⌜ acceptAnswer r ≡ asked (λ c. says (wouldAccept id len clock c)) (view (areasOf (now (words .entry)) (now (bytes .entry)))) ⌝ }
+{
+    if table::well_formed(words, bytes.len()) {
+        if accepts(words, bytes, id as u64, len, clock) {
+            return AcceptAnswer::Yes;
+        }
+        return AcceptAnswer::No;
+    }
+    AcceptAnswer::Damaged
+}
+
+// The figures of a cache.
+pub struct CacheFigures {
+    pub templates: u64,
+    pub bodies: u64,
+    pub bytes: u64,
+    pub cached: u64,
+    pub dropped: u64,
+    // bodies handed out that may still be put back
+    pub handed: u64,
+}
+
+// What the figures' call answers.
+pub enum FiguresAnswer {
+    At(CacheFigures),
+    // number 28
+    Damaged,
+}
+
+// How many handed-out bodies may still be put back.
+fn handed_count(words: &[u64], bytes: &[u8], limits: PendingFlowsConfig) -> u64
+    requires { ⌜ (wellFormed (now words) (length (now bytes)) ≡ true) × (limits ≡ limitsOf (now words)) ⌝ }
+    ensures { λ r. ⌜ r ≡ countSum (tableOf (now (words .entry)) .handed) ⌝ }
+{
+    if words[CHANCE_COUNT] == 0 {
+        return 0;
+    }
+    let held = words[HELD_COUNT] as usize;
+    record_at(words, records_at(limits) + RECORD_WORDS * held).count
+}
+
+// The figures of a well-formed cache.
+fn figures_of(words: &[u64], bytes: &[u8]) -> CacheFigures
+    requires { ⌜ wellFormed (now words) (length (now bytes)) ≡ true ⌝ }
+    ensures { λ r. ⌜ figuresRecord r ≡ figures (cacheOf (tableOf (now (words .entry))) (now (bytes .entry))) ⌝ }
+{
+    let limits = limits_at(words);
+    let handed = handed_count(words, bytes, limits);
+    CacheFigures {
+        templates: words[HELD_COUNT],
+        bodies: words[ENTRY_COUNT] - handed,
+        bytes: words[TOTAL],
+        cached: words[CACHED],
+        dropped: words[DROPPED],
+        handed,
+    }
+}
+
+// Templates and bodies held, the byte total, both counters, and the bodies handed out.
+pub fn take_figures(words: &[u64], bytes: &[u8]) -> FiguresAnswer
+    ensures { λ r.
+        ⌜ figuresAnswer r ≡ asked (λ c. tells (figures c)) (view (areasOf (now (words .entry)) (now (bytes .entry)))) ⌝ }
+{
+    if table::well_formed(words, bytes.len()) {
+        return FiguresAnswer::At(figures_of(words, bytes));
+    }
+    FiguresAnswer::Damaged
+}

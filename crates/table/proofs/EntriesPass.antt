@@ -1,0 +1,145 @@
+-- The pass over the entries, turn by turn. Assumes nothing.
+use mathlib.Core.Path.{_≡_, refl, sym, _∙_}
+use mathlib.Core.Bool.{Bool, true, false, _&&_}
+use mathlib.Core.List.{List}
+use Prim.Native.Nat.{ℕ, _+_, _*_, _-_, _^_, _≤_, _<_}
+use native.Mathlib.Omega.{arith}
+use native.Mathlib.Decide.{ℕ-discrete}
+use lib.Dec.{eqb, leb, ltb}
+use lib.ListN.{getD}
+use borrow.Author.Tests.{leb-true, lt-ltb, le-ltb, le-leb, lt-leb, eq-eqb, ne-eqb}
+use Rattle.config.specs.Limits.{entryWords}
+use Rattle.table.specs.declared.Entry.{Entry}
+use Rattle.table.specs.Layout.{entriesAt}
+use Rattle.table.specs.Table.{entryAt, entriesFrom}
+use Rattle.table.specs.Passes.{entryFits, heldLen, lessAt, entriesPass}
+use Rattle.table.proofs.Tests.{and-left, and-right, same-order}
+use Rattle.table.proofs.Words.{entries-first, entries-none}
+
+-- an entry by itself, by the test that decides
+module _ (size most end : ℕ) (e : Entry) where
+  pub too-long : size < e .len → false ≡ entryFits size most end e
+  unfolding entryFits
+  too-long h = simp (lt-leb _ _ h)
+
+  module _ (short : e .len ≤ size) where
+    pub overlaps : e .place < end → false ≡ entryFits size most end e
+    unfolding entryFits
+    overlaps h = simp (le-leb _ _ short, lt-leb _ _ h)
+
+    pub end-decides : size ≤ most → end ≤ e .place → leb (e .place) (most - e .len) ≡ entryFits size most end e
+    unfolding entryFits
+    end-decides s h =
+        same-order (e .place) (most - e .len) (e .place + e .len) most (λ k. omega arith) (λ k. omega arith)
+        ∙ simp (le-leb _ _ short, le-leb _ _ h)
+
+pub record Fits (size most end : ℕ) (e : Entry) : Type 0 where
+  pub short : e .len ≤ size
+  pub above : end ≤ e .place
+  pub within : e .place + e .len ≤ most
+
+pub fits-says : (size most end : ℕ) (e : Entry) → entryFits size most end e ≡ true → Fits size most end e
+unfolding entryFits
+fits-says size most end e t =
+    let t′ = and-right (leb (e .len) size) _ t in
+    record {
+      short = leb-true _ _ (and-left (leb (e .len) size) _ t);
+      above = leb-true _ _ (and-left (leb end (e .place)) _ t′);
+      within = leb-true _ _ (and-right (leb end (e .place)) _ t′);
+    }
+
+module _ (out : ℕ) (e : Entry) where
+  pub handed-adds : e .label ≡ out → 0 ≡ heldLen out e
+  unfolding heldLen
+  handed-adds h = rw (eq-eqb _ _ h)
+
+  pub held-adds : (e .label ≡ out → ⊥) → e .len ≡ heldLen out e
+  unfolding heldLen
+  held-adds h = rw (ne-eqb _ _ h)
+
+  pub adds-within : heldLen out e ≤ e .len
+  adds-within = by-label (ℕ-discrete (e .label) out)
+    where
+      by-label : Dec (e .label ≡ out) → heldLen out e ≤ e .len
+      by-label (yes h) = omega (arith, handed-adds h)
+      by-label (no h) = omega (arith, held-adds h)
+
+-- `left` entries are left, from word p on; those passed end at `end`, and their held lengths sum to `held`
+pub record EntriesPassed (w : List ℕ) (entries size most out total : ℕ) (allow₀ allow : List ℕ)
+    (end held left p : ℕ) :
+    Type 0
+  where
+    pub reached : p + entryWords * left ≡ entriesAt + entryWords * entries
+    pub no-more : held ≤ end
+    pub within : end ≤ most
+    pub test : entriesPass size most out total end allow held (entriesFrom w p left)
+        ≡ entriesPass size most out total 0 allow₀ 0 (entriesFrom w entriesAt entries)
+
+module _ (w : List ℕ) (entries size most out total : ℕ) where
+  pub no-entry-passed : (allow : List ℕ) →
+      EntriesPassed w entries size most out total allow allow 0 0 entries entriesAt
+  no-entry-passed allow = record { reached = refl; no-more = omega arith; within = omega arith; test = refl }
+
+  module _ {allow₀ allow : List ℕ} {end held left p : ℕ}
+      (inv : EntriesPassed w entries size most out total allow₀ allow end held left p) where
+    pub entries-passed : left ≤ 0 →
+        eqb held total ≡ entriesPass size most out total 0 allow₀ 0 (entriesFrom w entriesAt entries)
+    unfolding entriesPass
+    entries-passed h = rw (entries-none w p left h) at (inv .test)
+
+    module _ (e : Entry) (more : 0 < left) (is : e ≡ entryAt w p) where
+      next-test : ltb (e .label) 1024 && (ltb 0 (getD allow (e .label) 0) && (entryFits size most end e && entriesPass
+          size most out total (e .place + e .len) (lessAt allow (e .label)) (held + heldLen out e)
+          (entriesFrom w (p + entryWords) (left - 1))))
+          ≡ entriesPass size most out total 0 allow₀ 0 (entriesFrom w entriesAt entries)
+      unfolding entriesPass
+      next-test = rw (entries-first w p left more e is) at (inv .test)
+
+      pub large-label : 1024 ≤ e .label →
+          false ≡ entriesPass size most out total 0 allow₀ 0 (entriesFrom w entriesAt entries)
+      large-label h = rw (le-ltb (e .label) 1024 h) at next-test
+
+      module _ (small-label : e .label < 1024) where
+        pub none-left : getD allow (e .label) 0 ≡ 0 →
+            false ≡ entriesPass size most out total 0 allow₀ 0 (entriesFrom w entriesAt entries)
+        none-left h = rw (lt-ltb (e .label) 1024 small-label, h) at next-test
+
+        module _ (some-left : getD allow (e .label) 0 ≡ 0 → ⊥) (t : Bool) (told : t ≡ entryFits size most end e) where
+          pub misplaced : t ≡ false →
+              false ≡ entriesPass size most out total 0 allow₀ 0 (entriesFrom w entriesAt entries)
+          misplaced h =
+              rw (
+                lt-ltb (e .label) 1024 small-label,
+                lt-ltb 0 (getD allow (e .label) 0) (omega arith),
+                ← told,
+                h,
+              )
+              at next-test
+
+          module _ (holds : t ≡ true) where
+            fits-there : Fits size most end e
+            fits-there = fits-says size most end e (sym told ∙ holds)
+
+            pub end-fits : most < 2 ^ 64 → e .place + e .len < 2 ^ 64
+            end-fits m = let f = fits-there in omega arith
+
+            later-test : entriesPass size most out total (e .place + e .len) (lessAt allow (e .label))
+                (held + heldLen out e) (entriesFrom w (p + entryWords) (left - 1))
+                ≡ entriesPass size most out total 0 allow₀ 0 (entriesFrom w entriesAt entries)
+            later-test =
+                rw (
+                  lt-ltb (e .label) 1024 small-label,
+                  lt-ltb 0 (getD allow (e .label) 0) (omega arith),
+                  ← told,
+                  holds,
+                )
+                at next-test
+
+            pub entry-passed : (add : ℕ) → add ≡ heldLen out e → EntriesPassed w entries size most out total allow₀
+                (lessAt allow (e .label)) (e .place + e .len) (held + add) (left - 1) (p + entryWords)
+            entry-passed add added = let f = fits-there in record {
+              reached = omega arith;
+              no-more = omega (arith, adds-within out e);
+              within = f .within;
+              test = rw added later-test;
+            }

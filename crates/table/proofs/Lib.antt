@@ -1,0 +1,15 @@
+pub mod Tests
+pub mod Words
+pub mod Limits
+pub mod Facts
+pub mod Header
+pub mod RecordsPass
+pub mod IndexPass
+pub mod EntriesPass
+pub mod Draws
+pub mod Index
+pub mod Labels
+pub mod Counted
+pub mod Passes
+pub mod WordsPasses
+pub mod Lookups

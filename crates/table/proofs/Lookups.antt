@@ -1,0 +1,136 @@
+-- The passes that look something up in records or entries: what is found is found in what is left. Assumes nothing.
+use mathlib.Core.Path.{_≡_, refl, ap, sym, _∙_}
+use mathlib.Core.Bool.{Bool, true, false, not, _&&_, cond}
+use mathlib.Core.List.{List, [], _∷_}
+use Prim.Native.Nat.{ℕ, _+_, _*_, _-_, _≤_, _<_}
+use native.Mathlib.Nat.{le-of-eq}
+use native.Mathlib.Omega.{arith}
+use lib.Dec.{eqb}
+use lib.ListN.{length}
+use borrow.Author.Tests.{eq-eqb, ne-eqb}
+use Rattle.config.specs.declared.Ttl.{Ttl}
+use Rattle.config.specs.Age.{expiredAt}
+use Rattle.config.specs.Limits.{headerWords, recordWords, entryWords}
+use Rattle.table.specs.declared.Entry.{Entry}
+use Rattle.table.specs.declared.TemplateRecord.{TemplateRecord}
+use Rattle.table.specs.declared.LabelFound.{LabelFound}
+use Rattle.table.specs.declared.LabelFound.the-variants as Label
+use Rattle.table.specs.declared.EntryFound.{EntryFound}
+use Rattle.table.specs.declared.EntryFound.the-variants as Found
+use Rattle.table.specs.Layout.{entriesAt}
+use Rattle.table.specs.Table.{entryAt, recordAt, entriesFrom, recordsFrom}
+use Rattle.table.specs.Reads.{labelOf, isLive, liveCount, nthOf}
+use Rattle.table.proofs.Words.{records-none, records-first, entries-none, entries-first}
+
+-- Looking for a key: the record that is found is among the `left` ones from word p on.
+pub record LabelSought (w : List ℕ) (key from records p left : ℕ) : Type 0 where
+  -- they lie within the words
+  pub within : p + recordWords * left ≤ length w
+  -- none of those passed has the key
+  pub same : labelOf key (recordsFrom w from records) ≡ labelOf key (recordsFrom w p left)
+
+pub all-records : (w : List ℕ) (key from records : ℕ) → from + recordWords * records ≤ length w →
+    LabelSought w key from records from records
+all-records w key from records h = record { within = h; same = refl }
+
+module _ {w : List ℕ} {key from records p left : ℕ} (inv : LabelSought w key from records p left) where
+  pub label-absent : left ≤ 0 → Label.Nothing ≡ labelOf key (recordsFrom w from records)
+  unfolding labelOf
+  label-absent h = sym (inv .same ∙ ap (labelOf key) (records-none w p left h))
+
+  module _ (r : TemplateRecord) (some : 0 < left) (is : r ≡ recordAt w p) where
+    pub label-found : key ≡ r .key → Label.At (r .label) ≡ labelOf key (recordsFrom w from records)
+    unfolding labelOf
+    label-found e = sym (inv .same ∙ rw (records-first w p left some r is, eq-eqb key (r .key) e))
+
+    pub label-further : (key ≡ r .key → ⊥) → LabelSought w key from records (p + recordWords) (left - 1)
+    unfolding labelOf
+    label-further h = record {
+      within = omega (arith, inv .within);
+      same = inv .same ∙ rw (records-first w p left some r is, ne-eqb key (r .key) h);
+    }
+
+-- An entry is live by its label, and by not being expired.
+module _ (ttl : Ttl) (clock label : ℕ) (e : Entry) where
+  pub other-label : (label ≡ e .label → ⊥) → false ≡ isLive ttl clock label e
+  other-label h = rw (ne-eqb label (e .label) h)
+
+  pub live-by-age : {v : Bool} → label ≡ e .label → v ≡ expiredAt ttl clock (e .clock) →
+      not v ≡ isLive ttl clock label e
+  live-by-age h f = rw (eq-eqb label (e .label) h, f)
+
+-- Counting live entries: those counted, and then those among the `left` ones from word p on.
+pub record LiveCounted (w : List ℕ) (ttl : Ttl) (clock label entries live p left : ℕ) : Type 0 where
+  -- they lie within the words
+  pub within : p + entryWords * left ≤ length w
+  -- no more are counted than passed
+  pub few : live + left ≤ entries
+  -- the whole count is what was counted, and then what is left
+  pub rest : liveCount ttl clock label (entriesFrom w entriesAt entries) ≡
+      live + liveCount ttl clock label (entriesFrom w p left)
+
+pub none-counted : (w : List ℕ) (ttl : Ttl) (clock label entries : ℕ) →
+    headerWords + entryWords * entries ≤ length w →
+    LiveCounted w ttl clock label entries 0 headerWords entries
+none-counted w ttl clock label entries h = record { within = h; few = omega arith; rest = omega arith }
+
+module _ {w : List ℕ} {ttl : Ttl} {clock label entries live p left : ℕ}
+    (inv : LiveCounted w ttl clock label entries live p left) where
+  pub all-counted : left ≤ 0 → live ≡ liveCount ttl clock label (entriesFrom w entriesAt entries)
+  unfolding liveCount
+  all-counted h =
+      let z : liveCount ttl clock label (entriesFrom w p left) ≡ 0 = rw (entries-none w p left h) in
+      omega (arith, inv .rest)
+
+  module _ (e : Entry) (v : Bool) (some : 0 < left) (is : e ≡ entryAt w p) (test : v ≡ isLive ttl clock label e) where
+    next : liveCount ttl clock label (entriesFrom w p left) ≡
+        cond v 1 0 + liveCount ttl clock label (entriesFrom w (p + entryWords) (left - 1))
+    unfolding liveCount
+    next = rw (entries-first w p left some e is, test)
+
+    pub live-counted : v ≡ true → LiveCounted w ttl clock label entries (live + 1) (p + entryWords) (left - 1)
+    live-counted h =
+        let n = rw h at next in
+        record { within = omega (arith, inv .within); few = omega (arith, inv .few); rest = omega (arith, inv .rest) }
+
+    pub not-counted : v ≡ false → LiveCounted w ttl clock label entries live (p + entryWords) (left - 1)
+    not-counted h =
+        let n = rw h at next in
+        record { within = omega (arith, inv .within); few = omega (arith, inv .few); rest = omega (arith, inv .rest) }
+
+-- Looking for the k-th entry of a label: it is the one with `before` of them before it, among the `left` ones.
+pub record EntrySought (w : List ℕ) (label k entries before p left : ℕ) : Type 0 where
+  -- they lie within the words
+  pub within : p + entryWords * left ≤ length w
+  -- none of those passed is it
+  pub same : nthOf label k (entriesFrom w entriesAt entries) ≡ nthOf label before (entriesFrom w p left)
+
+pub all-entries : (w : List ℕ) (label k entries : ℕ) → headerWords + entryWords * entries ≤ length w →
+    EntrySought w label k entries k headerWords entries
+all-entries w label k entries h = record { within = h; same = refl }
+
+module _ {w : List ℕ} {label k entries before p left : ℕ} (inv : EntrySought w label k entries before p left) where
+  pub entry-absent : left ≤ 0 → Found.Nothing ≡ nthOf label k (entriesFrom w entriesAt entries)
+  unfolding nthOf
+  entry-absent h = sym (inv .same ∙ ap (nthOf label before) (entries-none w p left h))
+
+  module _ (e : Entry) (some : 0 < left) (is : e ≡ entryAt w p) where
+    pub entry-found : label ≡ e .label → before ≡ 0 → Found.At e ≡ nthOf label k (entriesFrom w entriesAt entries)
+    unfolding nthOf
+    entry-found h z =
+        sym (inv .same ∙ rw (entries-first w p left some e is, eq-eqb label (e .label) h, eq-eqb before 0 z))
+
+    pub entry-before : label ≡ e .label → (before ≡ 0 → ⊥) →
+        EntrySought w label k entries (before - 1) (p + entryWords) (left - 1)
+    unfolding nthOf
+    entry-before h z = record {
+      within = omega (arith, inv .within);
+      same = inv .same ∙ rw (entries-first w p left some e is, eq-eqb label (e .label) h, ne-eqb before 0 z);
+    }
+
+    pub entry-of-other : (label ≡ e .label → ⊥) → EntrySought w label k entries before (p + entryWords) (left - 1)
+    unfolding nthOf
+    entry-of-other h = record {
+      within = omega (arith, inv .within);
+      same = inv .same ∙ rw (entries-first w p left some e is, ne-eqb label (e .label) h);
+    }

@@ -1,0 +1,38 @@
+-- What is read off the records and entries of a table.
+use mathlib.Core.List.{List, [], _∷_}
+use mathlib.Core.Bool.{Bool, true, false, not, _&&_, cond}
+use Prim.Native.Nat.{ℕ, zero, suc, _+_, _-_}
+use lib.Dec.{eqb}
+use Rattle.config.specs.declared.Ttl.{Ttl}
+use Rattle.config.specs.Age.{expiredAt}
+use Rattle.table.specs.declared.Entry.{Entry}
+use Rattle.table.specs.declared.TemplateRecord.{TemplateRecord}
+use Rattle.table.specs.declared.LabelFound.{LabelFound}
+use Rattle.table.specs.declared.LabelFound.the-variants as Label
+use Rattle.table.specs.declared.EntryFound.{EntryFound}
+use Rattle.table.specs.declared.EntryFound.the-variants as Found
+
+-- the label of the record with a key
+unfoldable pub labelOf : ℕ → List TemplateRecord → LabelFound
+labelOf key [] = Label.Nothing
+labelOf key (r ∷ rs) = cond (eqb key (r .key)) (Label.At (r .label)) (labelOf key rs)
+
+-- an entry of this label that is not expired
+abbrev pub isLive : Ttl → ℕ → ℕ → Entry → Bool
+isLive ttl now label e = eqb label (e .label) && not (expiredAt ttl now (e .clock))
+
+-- how many there are
+unfoldable pub liveCount : Ttl → ℕ → ℕ → List Entry → ℕ
+liveCount ttl now label [] = 0
+liveCount ttl now label (e ∷ es) = cond (isLive ttl now label e) 1 0 + liveCount ttl now label es
+
+-- the bodies of these records, by their counts
+unfoldable pub countSum : List TemplateRecord → ℕ
+countSum [] = 0
+countSum (r ∷ rs) = r .count + countSum rs
+
+-- the k-th entry of a label, from 0
+unfoldable pub nthOf : ℕ → ℕ → List Entry → EntryFound
+nthOf label k [] = Found.Nothing
+nthOf label k (e ∷ es) =
+    cond (eqb label (e .label)) (cond (eqb k 0) (Found.At e) (nthOf label (k - 1) es)) (nthOf label k es)

@@ -1,0 +1,86 @@
+// What is read off the records and entries of a table.
+ghost use mathlib.Core.Path.{_≡_};
+ghost use Prim.Native.Nat.{_+_, _*_, _≤_};
+ghost use lib.ListN.{length};
+ghost use Rattle.config.specs.Limits.{headerWords, recordWords, entryWords};
+ghost use Rattle.table.specs.Layout.{entriesAt};
+ghost use Rattle.table.specs.Table.{entriesFrom, recordsFrom};
+ghost use Rattle.table.specs.Reads.{labelOf, isLive, liveCount, countSum, nthOf};
+use super::Entry;
+use super::EntryFound;
+use super::LabelFound;
+use super::layout::entry_at;
+use super::layout::record_at;
+use config::ENTRY_WORDS;
+use config::HEADER_WORDS;
+use config::RECORD_WORDS;
+use config::Ttl;
+use config::is_expired;
+
+// The label of the record with this key.
+pub fn label_of(words: &[u64], from: usize, records: usize, key: u64) -> LabelFound
+    requires { ⌜ from + recordWords * records ≤ length (now words) ⌝ }
+    ensures { λ r. ⌜ r ≡ labelOf key (recordsFrom (now (words .entry)) from records) ⌝ }
+{
+    let mut left = records;
+    let mut p = from;
+    while left > 0 {
+        let template = record_at(words, p);
+        if key == template.key {
+            return LabelFound::At(template.label);
+        }
+        left -= 1;
+        p += RECORD_WORDS;
+    }
+    LabelFound::Nothing
+}
+
+// Whether an entry has this label and is not expired.
+fn is_live(entry: Entry, label: u64, ttl: Ttl, clock: u64) -> bool
+    ensures { λ r. ⌜ r ≡ isLive ttl clock label entry ⌝ }
+{
+    if label != entry.label {
+        return false;
+    }
+    !is_expired(ttl, clock, entry.clock)
+}
+
+// How many of the entries have this label and are not expired.
+pub fn live_count(words: &[u64], entries: usize, label: u64, ttl: Ttl, clock: u64) -> usize
+    requires { ⌜ headerWords + entryWords * entries ≤ length (now words) ⌝ }
+    ensures { λ r. ⌜ r ≡ liveCount ttl clock label (entriesFrom (now (words .entry)) entriesAt entries) ⌝ }
+{
+    let mut live: usize = 0;
+    let mut left = entries;
+    let mut p = HEADER_WORDS;
+    while left > 0 {
+        if is_live(entry_at(words, p), label, ttl, clock) {
+            live += 1;
+        }
+        left -= 1;
+        p += ENTRY_WORDS;
+    }
+    live
+}
+
+// The k-th of the entries that have this label, from 0.
+pub fn nth_of(words: &[u64], entries: usize, label: u64, k: usize) -> EntryFound
+    requires { ⌜ headerWords + entryWords * entries ≤ length (now words) ⌝ }
+    ensures { λ r. ⌜ r ≡ nthOf label k (entriesFrom (now (words .entry)) entriesAt entries) ⌝ }
+{
+    let mut before = k;
+    let mut left = entries;
+    let mut p = HEADER_WORDS;
+    while left > 0 {
+        let entry = entry_at(words, p);
+        if label == entry.label {
+            if before == 0 {
+                return EntryFound::At(entry);
+            }
+            before -= 1;
+        }
+        left -= 1;
+        p += ENTRY_WORDS;
+    }
+    EntryFound::Nothing
+}
