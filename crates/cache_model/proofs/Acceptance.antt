@@ -20,7 +20,7 @@ use Rattle.cache_model.specs.Queries.{wouldAccept}
 use Rattle.cache_model.proofs.Choices.{by-case, cond-of, and-left, and-right}
 use Rattle.cache_model.proofs.Lists.{part-map, sub-drop}
 use Rattle.cache_model.proofs.Parts.{fewer-equal, Differ, differ-part, bodies-of-have}
-use Rattle.cache_model.proofs.Limits.{Legal, Within, evicted-within, evictions-make-room}
+use Rattle.cache_model.proofs.Limits.{LegalLimits, Within, evicted-within, evictions-make-room}
 use Rattle.cache_model.proofs.Calls.{limitsAlone, Limited, held-within}
 use Rattle.cache_model.proofs.Pruning.{stays, live, all-kept, none-pruned, of-evicted, of-pruned}
 
@@ -59,7 +59,7 @@ module _ (l : PendingFlowsConfig) (old : Body → Bool) (i : ℕ) (b : Body) whe
       (λ _ f. let no : _≡_ {A = ℕ} 0 1 = cc in absurd (omega arith))
       e
 
-  module _ (legal : Legal l) (small : size b ≤ l .«max_entry_size_bytes») where
+  module _ (legal : LegalLimits l) (small : size b ≤ l .«max_entry_size_bytes») where
     -- 20 exactly if the template survives the byte evictions and then holds its cap of unexpired bodies; never 21
     pub verdict-in-full : (ts : List Template) → Differ ts
         → steps2to5 l old i b ts .verdict ≡ cond (leb cap (unexpired ts)) (refused 20) accepted

@@ -24,8 +24,8 @@ use Rattle.cache_model.proofs.Lists.{length-part, sub-all, sub-front, s
 use Rattle.cache_model.proofs.Weights.{sum-without}
 use Rattle.cache_model.proofs.Parts.{fewer-equal, sub-keep, sub-without, sum-sub, bodies-of-have}
 use Rattle.cache_model.proofs.Parts.{length-without, unless-empty-filled}
-use Rattle.cache_model.proofs.Limits.{Legal, config-legal, Within, nothing-within, within-part, within-sub}
-use Rattle.cache_model.proofs.Limits.{renewed-within, Followed, followed-within}
+use Rattle.cache_model.proofs.Limits.{LegalLimits, config-legal, Within, nothing-within, within-part}
+use Rattle.cache_model.proofs.Limits.{within-sub, renewed-within, Followed, followed-within}
 use Rattle.cache_model.proofs.Offers.{offer-within}
 use Rattle.cache_model.proofs.Resizes.{shrunk-within}
 
@@ -34,7 +34,7 @@ abbrev pub whole : Cache → List Template
 whole c = c .held ++ unlessEmpty (c .chance .id) (c .chance .bodies) []
 
 pub record CacheWithin (F : Followed) (new : List Body) (c : Cache) : Type 0 where
-  pub legal : Legal (c .limits)
+  pub legal : LegalLimits (c .limits)
   pub within : Within (c .limits) F new (whole c)
 
 -- ---- drain and put-back
@@ -134,7 +134,7 @@ module _ {F : Followed} (c : Cache) (h : CacheWithin F [] c) where
       (λ _. h)
       (λ e. by-case Kept (mayPutBack i n c) (restored-within i n (eqb-false n 0 e)) (λ _. h))
 
-  pub resized-to-within : (l : PendingFlowsConfig) → Legal l
+  pub resized-to-within : (l : PendingFlowsConfig) → LegalLimits l
       → CacheWithin F [] (resizedTo l c (shrunk l (c .held)) .cache)
   unfolding resizedTo
   resized-to-within l legal = record {
@@ -171,7 +171,7 @@ Limited c = CacheWithin limitsAlone [] c
 pub limited : {F : Followed} {new : List Body} {c : Cache} → CacheWithin F new c → Limited c
 limited h = record { legal = h .legal; within = followed-within (λ bs _. tt) (h .within) }
 
-pub opened-limited : (l : PendingFlowsConfig) → Legal l → Limited (opened l)
+pub opened-limited : (l : PendingFlowsConfig) → LegalLimits l → Limited (opened l)
 opened-limited l legal = record { legal = legal; within = nothing-within l limitsAlone [] }
 
 pub does-limited : (k : ℕ) (x : Call) (c : Cache) → Limited c → Limited (does k x c .cache)

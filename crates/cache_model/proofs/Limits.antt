@@ -5,14 +5,14 @@ use mathlib.Core.List.{List, [], _∷_, _++_}
 use mathlib.Core.Bool.{Bool, true, false, cond}
 use Prim.Native.Nat.{ℕ, suc, _+_, _≤_, _<_}
 use native.Mathlib.Omega.{arith}
-use lib.Dec.{eqb, ltb}
+use lib.Dec.{ltb}
 use lib.ListN.{length, drop, length-append}
-use borrow.Author.Tests.{eqb-true, eqb-false, ltb-false}
+use borrow.Author.Tests.{ltb-false}
 use Rattle.config.specs.declared.PendingFlowsConfig.{PendingFlowsConfig}
-use Rattle.config.specs.Limits.{limitsNumber, configNumber}
+use Rattle.config.specs.Limits.{configNumber}
+use Rattle.config.proofs.Legal.{legal}
 use Rattle.cache_model.specs.Bodies.{Body, Template, size, sumBodies, byteTotal, without}
 use Rattle.cache_model.specs.Removal.{Split, evicted, evictions, pruned}
-use Rattle.cache_model.proofs.Choices.{by-case}
 use Rattle.cache_model.proofs.Lists.{All, Part, SubList, all-map, all-last, all-part, all-sub, part-map}
 use Rattle.cache_model.proofs.Lists.{length-part, sub-drop}
 use Rattle.cache_model.proofs.Weights.{sum-templates}
@@ -20,43 +20,15 @@ use Rattle.cache_model.proofs.Parts.{Fewer, fewer-equal, sub-without, k
 use Rattle.cache_model.proofs.Parts.{differ-last, absent-without, Filled, kept-filled}
 
 -- what the rules need of limits that are not refused
-pub record Legal (l : PendingFlowsConfig) : Type 0 where
+pub record LegalLimits (l : PendingFlowsConfig) : Type 0 where
   pub templates : 0 < l .«max_pending_flows»
   pub entries : 0 < l .«max_entries_per_template»
   pub entry : l .«max_entry_size_bytes» ≤ l .«max_total_bytes»
 
-not-refused : (q : Bool) (n rest : ℕ) → cond q (suc n) rest ≡ 0 → (q ≡ false) × (rest ≡ 0)
-not-refused true n rest e = let no : ⊥ = omega arith in absurd no
-not-refused false n rest e = (refl, e)
-
-limits-legal : (l : PendingFlowsConfig) → limitsNumber l ≡ 0 → Legal l
-unfolding limitsNumber
-limits-legal l e =
-    let n = l .«max_pending_flows» in
-    let k = l .«max_entries_per_template» in
-    let m = l .«max_entry_size_bytes» in
-    let t = l .«max_total_bytes» in
-    let templates = not-refused (eqb n 0) 0 _ e in
-    let entries = not-refused (eqb k 0) 1 _ (templates .1) in
-    let size = not-refused (eqb m 0) 2 _ (entries .1) in
-    let small = not-refused (ltb 65531 m) 2 _ (size .1) in
-    let total = not-refused (eqb t 0) 3 _ (small .1) in
-    let large = not-refused (ltb t m) 3 _ (total .1) in
-    record {
-      templates = positive n (templates .0);
-      entries = positive k (entries .0);
-      entry = ltb-false t m (large .0);
-    }
-  where
-    positive : (n : ℕ) → eqb n 0 ≡ false → 0 < n
-    positive n e = let h : n ≡ 0 → ⊥ = eqb-false n 0 e in omega arith
-
-pub config-legal : (l : PendingFlowsConfig) (bytes words : ℕ) → configNumber l bytes words ≡ 0 → Legal l
-unfolding configNumber
-config-legal l bytes words =
-    by-case (λ (n : ℕ). n ≡ 0 → Legal l) (eqb (limitsNumber l) 0)
-    (λ e _. limits-legal l (eqb-true (limitsNumber l) 0 e))
-    (λ _ e. limits-legal l e)
+pub config-legal : (l : PendingFlowsConfig) (bytes words : ℕ) → configNumber l bytes words ≡ 0 → LegalLimits l
+config-legal l bytes words e =
+    let h = legal l bytes words e in
+    record { templates = h .some-templates; entries = h .some-entries; entry = h .size-fits }
 
 -- what a sub-list of bodies inherits
 abbrev pub Inherited : (List Body → Type 0) → Type 0

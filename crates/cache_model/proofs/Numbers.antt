@@ -7,8 +7,6 @@ use Prim.Native.Nat.{ℕ, zero, suc, _+_, _-_}
 use lib.Dec.{eqb, leb, ltb}
 use lib.ListN.{length, take, drop, getD, length-map}
 use Rattle.config.specs.declared.PendingFlowsConfig.{PendingFlowsConfig}
-use Rattle.config.specs.declared.Ttl.{Ttl}
-use Rattle.config.specs.declared.Ttl.the-variants.{None, After}
 use Rattle.config.specs.Limits.{configNumber}
 use Rattle.cache_model.specs.Bodies.{Body, Template, size, sumBodies, byteTotal, keep, allBodies, bodiesOf}
 use Rattle.cache_model.specs.Bodies.{without, unlessEmpty, expired}
@@ -75,10 +73,6 @@ module _ (f : ℕ → ℕ) where
   pub total-renumbered : (ts : List Template) → byteTotal (held′ ts) ≡ byteTotal ts
   total-renumbered [] = refl
   total-renumbered (t ∷ ts) = ap₂ (λ (m n : ℕ). m + n) (sum-renumbered (t .bodies)) (total-renumbered ts)
-
-  expired-renumbered : (ttl : Ttl) (now : ℕ) (b : Body) → expired ttl now (renumber b) ≡ expired ttl now b
-  expired-renumbered None now b = refl
-  expired-renumbered (After n) now b = refl
 
   -- a test that reads no number
   keep-renumbered : (p : Body → Bool) → ((b : Body) → p (renumber b) ≡ p b) → (bs : List Body)
@@ -265,7 +259,7 @@ module _ (f : ℕ → ℕ) where
       let old = expired (l .ttl) (b .clock) in
       let o = steps2to5 l old i b (c .held) in
       rw (
-        steps-renumbered l old (expired-renumbered (l .ttl) (b .clock)) i b (c .held),
+        steps-renumbered l old (λ x. refl) i b (c .held),
         accepted-renumbered (o .verdict) b,
         length-map (o .left .removed) renumber,
       )
@@ -280,13 +274,12 @@ module _ (f : ℕ → ℕ) where
   drained-renumbered i now c =
       let old : Body → Bool = λ b. expired (c .limits .ttl) now b in
       let live : Body → Bool = λ b. not (old b) in
-      let same = expired-renumbered (c .limits .ttl) now in
       let bs = bodiesOf i (c .held) in
       cc (
         bodies-renumbered i (c .held),
         without-renumbered i (c .held),
-        keep-renumbered live (λ b. ap not (same b)) bs,
-        keep-renumbered old same bs,
+        keep-renumbered live (λ b. refl) bs,
+        keep-renumbered old (λ b. refl) bs,
         length-map (keep live bs) renumber,
         length-map (keep old bs) renumber,
         chance-renumbered i (keep live bs),
@@ -337,11 +330,7 @@ module _ (f : ℕ → ℕ) where
   would-accept-renumbered i n now c =
       let live : Body → Bool = λ b. not (expired (c .limits .ttl) now b) in
       let bs = bodiesOf i (c .held) in
-      rw (
-        bodies-renumbered i (c .held),
-        keep-renumbered live (λ b. ap not (expired-renumbered (c .limits .ttl) now b)) bs,
-        length-map (keep live bs) renumber,
-      )
+      rw (bodies-renumbered i (c .held), keep-renumbered live (λ b. refl) bs, length-map (keep live bs) renumber)
 
   bytes-renumbered : (k : ℕ) (bs : List Body) → getD (bodies′ bs) k noBody .bytes ≡ getD bs k noBody .bytes
   bytes-renumbered k [] = refl

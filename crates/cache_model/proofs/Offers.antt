@@ -18,11 +18,11 @@ use Rattle.cache_model.proofs.Lists.{All, Part, all-last, part-map, len
 use Rattle.cache_model.proofs.Weights.{sum-append, sum-without}
 use Rattle.cache_model.proofs.Parts.{Fewer, fewer-equal, sub-without, kept-part, sum-part, Absent, absent-part}
 use Rattle.cache_model.proofs.Parts.{bodies-of-have, absent-has-none, none-so-absent, length-without}
-use Rattle.cache_model.proofs.Limits.{Legal, Within, evicted-within, pruned-within, renewed-within, Followed}
-use Rattle.cache_model.proofs.Limits.{followed-within}
+use Rattle.cache_model.proofs.Limits.{LegalLimits, Within, evicted-within, pruned-within, renewed-within}
+use Rattle.cache_model.proofs.Limits.{Followed, followed-within}
 
 -- an offer, after the size test
-module _ (l : PendingFlowsConfig) (legal : Legal l) (F : Followed) (old : Body → Bool) (i : ℕ) (b : Body)
+module _ (l : PendingFlowsConfig) (legal : LegalLimits l) (F : Followed) (old : Body → Bool) (i : ℕ) (b : Body)
     (small : size b ≤ l .«max_entry_size_bytes») where
   abbrev Sound : List Template → Type 0
   Sound ts = Within l F [] ts

@@ -15,7 +15,7 @@ use Rattle.cache_model.proofs.Choices.{by-case}
 use Rattle.cache_model.proofs.Lists.{All, Part, all-sub, part-map, part-trans, length-part, sub-drop}
 use Rattle.cache_model.proofs.Parts.{Fewer, fewer-equal, fewer-trans, kept-part, newest-part, differ-part}
 use Rattle.cache_model.proofs.Parts.{Filled, kept-filled, kept-have}
-use Rattle.cache_model.proofs.Limits.{Legal, Within, each-inherits, small-inherited, evictions-make-room}
+use Rattle.cache_model.proofs.Limits.{LegalLimits, Within, each-inherits, small-inherited, evictions-make-room}
 use Rattle.cache_model.proofs.Limits.{Followed}
 
 newest-filled : (n : ℕ) (ts : List Template) → 0 < n → Filled ts → Filled (newestOf n ts)
@@ -36,8 +36,8 @@ kept-small n (b ∷ bs) =
     (λ _. kept-small n bs)
 
 -- what is followed holds of what is left
-pub shrunk-within : {l : PendingFlowsConfig} {F : Followed} (l′ : PendingFlowsConfig) (ts : List Template) → Legal l′
-    → Within l F [] ts → Within l′ F [] (shrunk l′ ts .held)
+pub shrunk-within : {l : PendingFlowsConfig} {F : Followed} (l′ : PendingFlowsConfig) (ts : List Template)
+    → LegalLimits l′ → Within l F [] ts → Within l′ F [] (shrunk l′ ts .held)
 unfolding shrunk evicted pruned capped
 shrunk-within {F} l′ ts legal h =
     let cap = l′ .«max_entries_per_template» in

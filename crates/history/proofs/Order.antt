@@ -14,7 +14,7 @@ use Rattle.cache_model.specs.Calls.{mayPutBack, putBack, resized}
 use Rattle.cache_model.specs.History.{Call, Offer, Drain, PutBack, Resize, Clear, WouldAccept, ReadHandedOut}
 use Rattle.cache_model.specs.History.{PlaceHandedOut, TakeFigures, does}
 use Rattle.cache_model.proofs.Lists.{SubList, part-trans, part-append, sub-all, sub-none, sub-front}
-use Rattle.cache_model.proofs.Limits.{Legal, config-legal, Followed, followed-within, nothing-within}
+use Rattle.cache_model.proofs.Limits.{LegalLimits, config-legal, Followed, followed-within, nothing-within}
 use Rattle.cache_model.proofs.Calls.{CacheWithin, refused-size-within, settled-within, drained-within}
 use Rattle.cache_model.proofs.Calls.{restored-within, resized-to-within, cleared-within}
 use Rattle.history.specs.Account.{Event, call, refusedOpening, Account, Change, begun, change, next}
@@ -60,7 +60,7 @@ call-within k (ReadHandedOut n) c h = h
 call-within k (PlaceHandedOut n) c h = h
 call-within k TakeFigures c h = h
 
-pub begun-in-order : (l : PendingFlowsConfig) → Legal l → InOrder (begun l)
+pub begun-in-order : (l : PendingFlowsConfig) → LegalLimits l → InOrder (begun l)
 begun-in-order l legal = record { legal = legal; within = nothing-within l (orderOf []) [] }
 
 pub next-in-order : (e : Event) (a : Account) → InOrder a → InOrder (next e a)
