@@ -26,6 +26,7 @@ pub record Opening : Type 0 where
 abbrev pub openingNumber : Opening → ℕ
 openingNumber o = configNumber (o .limits) (o .bytes) (o .words)
 
+-- a call, or an opening that is refused and so changes nothing
 pub data Event : Type 0 where
   call : Call → Event
   refusedOpening : Opening → Event
@@ -63,6 +64,7 @@ pub record Account : Type 0 where
   pub drops : List Drop  -- a drop's place here is its unit of `pending_dropped`
   pub cleared : List Body
 
+-- from a successful opening on
 abbrev pub begun : PendingFlowsConfig → Account
 begun l = record {
   cache = opened l;
@@ -137,6 +139,7 @@ resizeChange l c = chanceEnds c (shrunk l (c .held) .removed) []
 abbrev pub clearChange : Cache → Change
 clearChange c = chanceEnds c [] (allBodies (c .held))
 
+-- k is the ordinal of the call, if it is an offer
 unfoldable pub change : ℕ → Call → Cache → Change
 change k (Offer i bytes now) c =
     let b : Body = record { number = k; bytes = bytes; clock = now } in
@@ -151,7 +154,7 @@ change k (ReadHandedOut n) c = noChange
 change k (PlaceHandedOut n) c = noChange
 change k TakeFigures c = noChange
 
--- the account after an event, and its answer
+-- the account after an event, and the account's answer
 unfoldable pub next : Event → Account → Account
 next (call x) a =
     let d = change (a .offers) x (a .cache) in
@@ -169,6 +172,7 @@ unfoldable pub answerTo : Event → Account → Answer
 answerTo (call x) a = does (a .offers) x (a .cache) .answer
 answerTo (refusedOpening o) a = number (openingNumber o)
 
+-- the same of a list of events
 unfoldable pub accountAfter : List Event → Account → Account
 accountAfter [] a = a
 accountAfter (e ∷ es) a = accountAfter es (next e a)
@@ -189,6 +193,7 @@ answersOf h = map (λ o. number (openingNumber o)) (h .refused) ++ (done ∷ eve
 
 -- ---- the fates of accepted bodies
 
+-- the dropped bodies in a list of drops, and the ordinals of the refused offers
 abbrev pub bodiesIn : List Drop → List Body
 bodiesIn [] = []
 bodiesIn (body b ∷ ds) = b ∷ bodiesIn ds

@@ -78,6 +78,7 @@ Times n a held handedOut dropped cleared =
     (timesIn n (heldBodies a) ≡ held) × (timesIn n (handedOutBodies a) ≡ handedOut)
     × (timesIn n (droppedBodies a) ≡ dropped) × (timesIn n (a .cleared) ≡ cleared)
 
+-- once in one of the four lists, and in no other
 pub data OneFate (n : ℕ) (a : Account) : Type 0 where
   Held : Times n a 1 0 0 0 → OneFate n a
   HandedOut : Times n a 0 1 0 0 → OneFate n a
@@ -126,11 +127,12 @@ module _ (State : Type 0) (WellFormed : State → Type 0) (read : State → Cach
     pub answers : WellFormed s → r ≡ does 0 x (read s) .answer
     pub reads : WellFormed s → read s′ ≡ does 0 x (read s) .cache
 
-  -- and of an opening, whatever the areas hold
+  -- what the contract of an opening promises, whatever the areas hold: 1 to 5 and nothing changed, or an empty cache
   pub record OpeningPromised (o : Opening) (s s′ : State) (r : Answer) : Type 0 where
     pub refused : openingNumber o ≢ 0 → (r ≡ number (openingNumber o)) × (s′ ≡ s)
     pub opens : openingNumber o ≡ 0 → (r ≡ done) × WellFormed s′ × (read s′ ≡ opened (o .limits))
 
+  -- of an event in a history whose cache was opened so
   abbrev pub EventPromised : Opening → Event → State → State → Answer → Type 0
   EventPromised own (call x) s s′ r = OwnLengths own x × Promised x s s′ r
   EventPromised own (refusedOpening o) s s′ r = (openingNumber o ≢ 0) × OpeningPromised o s s′ r
