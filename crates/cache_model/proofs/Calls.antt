@@ -33,6 +33,7 @@ use Rattle.cache_model.proofs.Resizes.{shrunk-within}
 abbrev pub whole : Cache → List Template
 whole c = c .held ++ unlessEmpty (c .chance .id) (c .chance .bodies) []
 
+-- nor by a cache, what may be put back counted
 pub record CacheWithin (F : Followed) (new : List Body) (c : Cache) : Type 0 where
   pub legal : LegalLimits (c .limits)
   pub within : Within (c .limits) F new (whole c)

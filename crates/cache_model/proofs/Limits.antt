@@ -34,23 +34,24 @@ config-legal l bytes words e =
 abbrev pub Inherited : (List Body → Type 0) → Type 0
 Inherited P = (xs ys : List Body) → SubList xs ys → P ys → P xs
 
--- a property of a template's bodies that can be followed through the calls: it holds of bs once `new` is accepted
+-- a property of a template's bodies that can be followed through the calls
 pub record Followed : Type 1 where
-  pub Holds : (new bs : List Body) → Type 0
+  pub Holds : (new bs : List Body) → Type 0  -- of the bodies bs, once the bodies `new` are accepted
   pub empty : Holds [] []
   pub inherited : (new : List Body) → Inherited (Holds new)
+  -- a body is accepted into another template, or into this one
   pub later : (b : Body) (bs : List Body) → Holds [] bs → Holds (b ∷ []) bs
   pub joins : (b : Body) (bs : List Body) → Holds [] bs → Holds (b ∷ []) (bs ++ (b ∷ []))
 
--- no limit is passed, no two templates have the same id, none is empty; and what is followed
+-- no limit is passed by these templates
 pub record Within (l : PendingFlowsConfig) (F : Followed) (new : List Body) (ts : List Template) : Type 0 where
   pub few : length ts ≤ l .«max_pending_flows»
   pub caps : All (λ t. length (t .bodies) ≤ l .«max_entries_per_template») ts
   pub small : All (λ t. All (λ b. size b ≤ l .«max_entry_size_bytes») (t .bodies)) ts
-  pub followed : All (λ t. F .Holds new (t .bodies)) ts
-  pub differ : Differ ts
-  pub filled : Filled ts
   pub room : byteTotal ts ≤ l .«max_total_bytes»
+  pub differ : Differ ts  -- no two have the same id
+  pub filled : Filled ts  -- none is empty
+  pub followed : All (λ t. F .Holds new (t .bodies)) ts  -- what is followed, of each
 
 pub nothing-within : (l : PendingFlowsConfig) (F : Followed) (new : List Body) → Within l F new []
 nothing-within l F new = record {

@@ -30,11 +30,14 @@ use Rattle.history.proofs.Drops.{bodies-append, refusals-append, bodies
 
 -- the cache before a call, what came out of it, what it changed, and how many bodies it offered
 record Balances (c : Cache) (o : Outcome) (d : Change) (offers : ℕ) : Type 0 where
+  -- no body is lost or invented
   weights : (w : Body → ℕ) → sumTemplates w (o .cache .held) + sumBodies w (o .cache .chance .bodies)
       + sumBodies w (d .handedOutForGood) + sumBodies w (bodiesIn (d .drops)) + sumBodies w (d .cleared)
       ≡ sumTemplates w (c .held) + sumBodies w (c .chance .bodies) + sumBodies w (d .accepted)
+  -- the counters go on counting
   cached : (n : ℕ) → c .cached ≡ min n counterMost → o .cache .cached ≡ min (n + length (d .accepted)) counterMost
   dropped : (n : ℕ) → c .dropped ≡ min n counterMost → o .cache .dropped ≡ min (n + length (d .drops)) counterMost
+  -- an offer is accepted or refused
   offered : length (d .accepted) + length (refusalsIn (d .drops)) ≡ offers
 
 chance-bodies : (i : ℕ) (bs : List Body) → chanceOf i bs .bodies ≡ bs
@@ -190,11 +193,14 @@ module _ (c : Cache) where
 -- ---- the account
 
 pub record Balanced (a : Account) : Type 0 where
+  -- held, handed out, dropped and cleared are together accepted
   pub weights : (w : Body → ℕ) → sumTemplates w (a .cache .held) + (sumBodies w (a .handedOutForGood)
       + sumBodies w (a .cache .chance .bodies)) + sumBodies w (bodiesIn (a .drops)) + sumBodies w (a .cleared)
       ≡ sumBodies w (a .accepted)
+  -- the counters count, up to where they stop
   pub cached : a .cache .cached ≡ min (length (a .accepted)) counterMost
   pub dropped : a .cache .dropped ≡ min (length (a .drops)) counterMost
+  -- each offer was accepted or refused
   pub offers : length (a .accepted) + length (refusalsIn (a .drops)) ≡ a .offers
 
 pub begun-balanced : (l : PendingFlowsConfig) → Balanced (begun l)
