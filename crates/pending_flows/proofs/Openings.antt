@@ -18,7 +18,7 @@ use Rattle.config.specs.declared.ConfigRefusal.the-variants.{NoTemplates, NoEnt
 use Rattle.config.specs.declared.ConfigAnswer.{ConfigAnswer}
 use Rattle.config.specs.declared.ConfigAnswer.the-variants.{Accepted, Refused}
 use Rattle.config.specs.Limits.{answerNumber, configNumber, wordsNeeded, maxBodies}
-use Rattle.table.proofs.Limits.{limits-say}
+use Rattle.config.proofs.Limits.{limits-say}
 use Rattle.table.specs.Layout.{ttlOf, limitsOf}
 use Rattle.table.specs.Table.{entriesFrom, recordsFrom, indexFrom}
 use Rattle.table.specs.WellFormed.{wellFormed, indexRises}

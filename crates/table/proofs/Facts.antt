@@ -17,7 +17,7 @@ use Rattle.table.specs.Table.{Table, tableOf, index, hasLabel, tally, su
 use Rattle.table.specs.WellFormed.{every, allDiffer, limitsLegal, flagsLegal, countsLegal, recordLegal}
 use Rattle.table.specs.WellFormed.{entryLegal, placesLegal, totalRight, indexRises, tableLegal, wellFormed}
 use Rattle.table.proofs.Tests.{and-left, and-right, and-both}
-use Rattle.table.proofs.Limits.{LegalLimits, limits-say, limits-hold}
+use Rattle.config.proofs.Limits.{LegalLimits, limits-say, limits-hold}
 
 -- each of a list
 abbrev pub All : {A : Type 0} → (A → Type 0) → List A → Type 0

@@ -19,7 +19,7 @@ use Rattle.table.specs.Table.{tableOf, index}
 use Rattle.table.specs.WellFormed.{limitsLegal, flagsLegal, countsLegal, tableLegal, wellFormed}
 use Rattle.table.specs.Passes.{HeaderLegal}
 use Rattle.table.proofs.Tests.{and-left, and-right, and-fails, and-holds}
-use Rattle.table.proofs.Limits.{LegalLimits, limits-say, cap-small}
+use Rattle.config.proofs.Limits.{LegalLimits, limits-say, cap-small}
 
 -- the flags and the counts
 module _ (w : List ℕ) where

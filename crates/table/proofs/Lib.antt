@@ -1,6 +1,5 @@
 pub mod Tests
 pub mod Words
-pub mod Limits
 pub mod Facts
 pub mod Header
 pub mod RecordsPass

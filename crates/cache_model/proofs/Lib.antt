@@ -1,0 +1,11 @@
+pub mod Choices
+pub mod Lists
+pub mod Weights
+pub mod Parts
+pub mod Limits
+pub mod Offers
+pub mod Resizes
+pub mod Calls
+pub mod Numbers
+pub mod Pruning
+pub mod Acceptance

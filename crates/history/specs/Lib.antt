@@ -1,0 +1,2 @@
+pub mod Account
+pub mod Claim
