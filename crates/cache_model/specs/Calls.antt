@@ -1,7 +1,7 @@
 -- The other calls that change a cache: opening, drain, put-back, resize, clear.
 use mathlib.Core.List.{List, [], _∷_, _++_}
 use mathlib.Core.Bool.{Bool, not, _&&_, cond}
-use Prim.Native.Nat.{ℕ, _+_, _-_}
+use Prim.Native.Nat.{ℕ, _-_}
 use lib.Dec.{eqb, leb}
 use lib.ListN.{length, drop}
 use Rattle.config.specs.declared.PendingFlowsConfig.{PendingFlowsConfig}
@@ -51,8 +51,8 @@ putBack i n c =
     (cond (mayPutBack i n c) (record { answer = done; cache = restored i n c })
     (record { answer = number 25; cache = c }))
 
--- resize: "evicts least recent templates down to the new count, drops bodies over the new entry size, then oldest bodies
--- beyond the new cap, then least recent templates until the total fits"
+-- resize: "evicts least recent templates down to the new count, drops bodies over the new entry size, then oldest
+-- bodies beyond the new cap, then least recent templates until the total fits"
 abbrev pub cut : PendingFlowsConfig → List Template → Split
 cut l ts =
     capped (l .«max_entries_per_template»)

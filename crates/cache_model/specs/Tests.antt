@@ -65,5 +65,6 @@ abbrev expected : Row → List (List ℕ)
 expected r = r .answered ++ r .held
 
 pub readings-right : map computed rows ≡ map expected rows
-unfolding evicted evictions pruned step2 step3 step4 step5 addNewest step4or5 afterStep3 afterStep2 steps2to5 appended refusedSize settled offered wouldAccept does after answers
+unfolding evicted evictions pruned step2 step3 step4 step5 addNewest step4or5 afterStep3 afterStep2 steps2to5
+    appended refusedSize settled offered wouldAccept does after answers
 readings-right = refl

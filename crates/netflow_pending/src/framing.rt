@@ -29,7 +29,9 @@ pub extern "C" fn netflow_preflight_v9_fixed(
     max_records: usize,
     cost: &mut [u64; 3],
 ) -> u32
-    ensures { λ r. ⌜ Preflights (now (body .entry)) (now (widths .entry)) V9Fixed «max_records» r (now (cost .entry)) (now (cost .exit)) ⌝ }
+    ensures { λ r.
+        ⌜ Preflights (now (body .entry)) (now (widths .entry)) V9Fixed «max_records» r
+        (now (cost .entry)) (now (cost .exit)) ⌝ }
 {
     export(
         output_preflight::preflight(body, widths, Reading::V9Fixed, max_records),
@@ -45,7 +47,9 @@ pub extern "C" fn netflow_preflight_ipfix_fixed(
     max_records: usize,
     cost: &mut [u64; 3],
 ) -> u32
-    ensures { λ r. ⌜ Preflights (now (body .entry)) (now (widths .entry)) IpfixFixed «max_records» r (now (cost .entry)) (now (cost .exit)) ⌝ }
+    ensures { λ r.
+        ⌜ Preflights (now (body .entry)) (now (widths .entry)) IpfixFixed «max_records» r
+        (now (cost .entry)) (now (cost .exit)) ⌝ }
 {
     export(
         output_preflight::preflight(body, widths, Reading::IpfixFixed, max_records),
@@ -61,7 +65,9 @@ pub extern "C" fn netflow_preflight_ipfix_variable(
     max_records: usize,
     cost: &mut [u64; 3],
 ) -> u32
-    ensures { λ r. ⌜ Preflights (now (body .entry)) (now (widths .entry)) IpfixVariable «max_records» r (now (cost .entry)) (now (cost .exit)) ⌝ }
+    ensures { λ r.
+        ⌜ Preflights (now (body .entry)) (now (widths .entry)) IpfixVariable «max_records» r
+        (now (cost .entry)) (now (cost .exit)) ⌝ }
 {
     export(
         output_preflight::preflight(body, widths, Reading::IpfixVariable, max_records),

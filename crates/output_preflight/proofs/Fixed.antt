@@ -1,4 +1,5 @@
--- Where no field says its length itself, every record has the least size, and the scan is a division: v9 and IPFIX alike.
+-- Where no field says its length itself, every record has the least size, and the scan is a division: v9 and IPFIX
+-- alike.
 -- Assumes nothing.
 use mathlib.Core.Path.{_≡_, refl, ap, ap₂, sym, _∙_}
 use mathlib.Core.Bool.{Bool, true, false, cond}
@@ -51,7 +52,8 @@ module _ (r : Reading) (plain : (w : ℕ) → isVariable w r ≡ false) where
     -- q records, if so many fit, and no more do or no more may
     scan-equal-records : (q k : ℕ) (s : List ℕ) → q ≤ k → q * leastSize ws r ≤ length s → (q < k →
         length s < q * leastSize ws r + leastSize ws r) →
-        scanOf s ws r k ≡ record { records = q; payload = q * leastSize ws r; remainder = length s - q * leastSize ws r }
+        scanOf s ws r k
+        ≡ record { records = q; payload = q * leastSize ws r; remainder = length s - q * leastSize ws r }
     scan-equal-records zero zero s h l m = scan-none s ws r ∙ same-figures refl (omega arith) (omega arith)
     scan-equal-records zero (suc k) s h l m =
         scan-cut s ws r k (cut-field s ws r (fields-cut s ws (omega (arith, m (omega arith)))))

@@ -30,8 +30,8 @@ abbrev pub consuming : Span → Span
 consuming (Whole s n) = cond (ltb 0 s) (Whole s n) Cut
 consuming Cut = Cut
 
--- a whole record at the front of the bytes. One that takes nothing is none, as in the Rust's `scan_variable_record`: it has
--- least size 0, so no answer depends on it, and the scan is bounded by the body
+-- a whole record at the front of the bytes. One that takes nothing is none, as in the Rust's `scan_variable_record`: it
+-- has least size 0, so no answer depends on it, and the scan is bounded by the body
 unfoldable pub recordOf : List ℕ → List ℕ → Reading → Span
 recordOf bytes ws r = consuming (fieldsOf bytes ws r)
 

@@ -52,7 +52,7 @@ rest-records w p (suc n) c =
     let z : p + recordWords + recordWords * n ≡ p + recordWords * suc n = omega arith in
     rw (suc-add n c) (rest-records w (p + recordWords) n c ∙ rw z)
 
--- Handed-out bodies, by the record behind the held ones: l are the limits that were read, and p where the records begin.
+-- Handed-out bodies, by the record behind the held ones: l are the limits that were read, p where the records begin.
 module _ (w : List ℕ) (n p : ℕ) (l : PendingFlowsConfig) (ok : wellFormed w n ≡ true) (limits : l ≡ limitsOf w)
     (from : p ≡ recordsAt l) where
   start : p ≡ recordsAt (limitsOf w)

@@ -69,7 +69,8 @@ pub fn place_handed_out(words: &[u64], bytes: &[u8], k: usize) -> PlaceAnswer
 
 // Handed-out body k, as a part of the byte area; an empty part where the call beside it answers 27 or 28.
 pub fn read_handed_out<'a>(words: &[u64], bytes: &'a [u8], k: usize) -> &'a [u8]
-    ensures { λ r. ⌜ now r ≡ shown (asked (readHandedOut k) (view (areasOf (now (words .entry)) (now (bytes .entry))))) ⌝ }
+    ensures { λ r.
+        ⌜ now r ≡ shown (asked (readHandedOut k) (view (areasOf (now (words .entry)) (now (bytes .entry))))) ⌝ }
 {
     let PlaceAnswer::At(body) = place_handed_out(words, bytes, k) else {
         return &bytes[0..0];

@@ -61,7 +61,9 @@ fn write_header(words: &mut [u64], config: PendingFlowsConfig)
 
 // Opens an empty cache with both counters 0 in areas with any content, or refuses the limits.
 pub fn open(config: PendingFlowsConfig, words: &mut [u64], bytes: &[u8]) -> ConfigAnswer
-    ensures { λ r. ⌜ Opens config (areasOf (now (words .entry)) (now (bytes .entry))) r (areasOf (now (words .exit)) (now (bytes .entry))) ⌝ }
+    ensures { λ r.
+        ⌜ Opens config (areasOf (now (words .entry)) (now (bytes .entry))) r
+        (areasOf (now (words .exit)) (now (bytes .entry))) ⌝ }
 {
     let answer = config::validate_config(config, bytes.len(), words.len());
     let ConfigAnswer::Accepted = answer else {

@@ -66,7 +66,8 @@ fn accepts(words: &[u64], bytes: &[u8], id: u64, len: usize, clock: u64) -> bool
 // Whether an offer would be accepted: yes binds an offer of this id and length at this clock reading, no does not.
 pub fn would_accept(words: &[u64], bytes: &[u8], id: u16, len: usize, clock: u64) -> AcceptAnswer
     ensures { λ r.
-        ⌜ acceptAnswer r ≡ asked (λ c. says (wouldAccept id len clock c)) (view (areasOf (now (words .entry)) (now (bytes .entry)))) ⌝ }
+        ⌜ acceptAnswer r ≡ asked (λ c. says (wouldAccept id len clock c))
+        (view (areasOf (now (words .entry)) (now (bytes .entry)))) ⌝ }
 {
     if table::well_formed(words, bytes.len()) {
         if accepts(words, bytes, id as u64, len, clock) {
@@ -127,7 +128,8 @@ fn figures_of(words: &[u64], bytes: &[u8]) -> CacheFigures
 // Templates and bodies held, the byte total, both counters, and the bodies handed out.
 pub fn take_figures(words: &[u64], bytes: &[u8]) -> FiguresAnswer
     ensures { λ r.
-        ⌜ figuresAnswer r ≡ asked (λ c. tells (figures c)) (view (areasOf (now (words .entry)) (now (bytes .entry)))) ⌝ }
+        ⌜ figuresAnswer r ≡ asked (λ c. tells (figures c))
+        (view (areasOf (now (words .entry)) (now (bytes .entry)))) ⌝ }
 {
     if table::well_formed(words, bytes.len()) {
         return FiguresAnswer::At(figures_of(words, bytes));

@@ -1,5 +1,5 @@
-// Runs the budget on the list that `oracle record-budget` wrote, and compares: each row has a call with seven arguments,
-// the Rust's answer (a number and three values) and the budget after it (seven words), as decimal numbers
+// Runs the budget on the list that `oracle record-budget` wrote, and compares: each row has a call with seven
+// arguments, the Rust's answer (a number and three values) and the budget after it (seven words), as decimal numbers
 //     call a1 .. a7 number x1 x2 x3 max_values max_payload used_values used_payload exceeded configured attempted
 // oracle/README.md lists the calls. Where a call has a form that is lent the budget, both forms are run.
 mod calls;
@@ -168,7 +168,7 @@ fn begin() -> Replay {
     }
 }
 
-// A right row, and rows that are wrong in the answer and in the budget: a comparison that notices nothing would show here.
+// A right row, and rows that are wrong in the answer and in the budget: a comparison that notices nothing would show.
 fn run_wrong_rows() {
     let rows =
         b"0 5 5 0 0 0 0 0 0 0 0 0 5 5 0 0 0 0 0\n3 9 0 0 0 0 0 0 24 1 5 9 5 5 0 0 1 5 9\n3 1 1 0 0 0 0 0 0 0 0 0 5 5 1 0 1 5 9\n";

@@ -1,5 +1,6 @@
--- The table that words stand for. A template's bodies are the entries with its label, in table order, which is the order
--- of places and of arrival; records stand by recency, least recent first, and a handed-out template behind the held ones.
+-- The table that words stand for. A template's bodies are the entries with its label, in table order, which is the
+-- order of places and of arrival; records stand by recency, least recent first, and a handed-out template behind the
+-- held ones.
 use mathlib.Core.List.{List, [], _∷_}
 use mathlib.Core.Bool.{Bool, false, _||_, cond}
 use Prim.Native.Nat.{ℕ, zero, suc, _+_}

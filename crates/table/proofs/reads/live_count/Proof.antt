@@ -9,7 +9,8 @@ use Rattle.table.proofs.layout.entry_at.Reads as entry-at-reads
 use Rattle.table.proofs.reads.is_live.Reads as is-live-reads
 
 abbrev Inv-loop : tie.InvT-loop
-Inv-loop words entries label ttl clock live₀ left₀ p₀ live left p = LiveCounted words ttl clock label entries live p left
+Inv-loop words entries label ttl clock live₀ left₀ p₀ live left p =
+    LiveCounted words ttl clock label entries live p left
 
 abbrev μ-loop : tie.MeasureT-loop
 μ-loop words entries label ttl clock live₀ left₀ p₀ live left p = left

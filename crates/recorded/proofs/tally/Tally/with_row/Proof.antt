@@ -18,7 +18,9 @@ next-count-requires-2 : tie.Need-next-count-requires-2
 next-count-requires-2 c κs = search needs
 
 returns-2 : tie.Need-returns-2
-returns-2 c = rw (c .before .before .before .if1 .left, c .next-count2 .ensures, c .before .before .before .before .next-count .ensures)
+returns-2 c =
+    let counted = c .before .before .before in
+    rw (counted .if1 .left, c .next-count2 .ensures, counted .before .next-count .ensures)
 
 pub with-row-spec : {M : Type 1} → statement M
 with-row-spec =
