@@ -29,9 +29,10 @@ use Rattle.pending_flows.specs.declared.handed_out.PlaceRefusal.{PlaceRe
 use Rattle.pending_flows.specs.declared.handed_out.PlaceRefusal.the-variants as Refusal
 use Rattle.pending_flows.specs.declared.handed_out.PlaceAnswer.{PlaceAnswer}
 use Rattle.pending_flows.specs.declared.handed_out.PlaceAnswer.the-variants as Place
-use Rattle.pending_flows.specs.View.{bodiesAt, cacheOf, areasOf, view}
+use Rattle.pending_flows.specs.View.{Areas, bodiesAt, cacheOf, areasOf, view}
 use Rattle.pending_flows.specs.Queries.{asked}
 use Rattle.pending_flows.specs.HandedOut.{shown, placeNumber, placeAnswer, FindsHandedOut, PlacesHandedOut}
+use Rattle.pending_flows.specs.HandedOut.{ReadsHandedOut}
 use Rattle.pending_flows.proofs.Templates.{NthBody, nth-body}
 use Rattle.pending_flows.proofs.Questions.{damaged, answered}
 use Rattle.pending_flows.proofs.Figures.{rest-records}
@@ -120,13 +121,14 @@ module _ (w b : List ℕ) (k : ℕ) {s : Bool} {r : EntryFound} (tested : s ≡ 
       some-is : some (cacheOf (tableOf w) b) ≡ some c → cacheOf (tableOf w) b ≡ c
       some-is h = cc
 
-  pub not-handed-out : r ≡ Found.Nothing → PlacesHandedOut (areasOf w b) k (Place.Refused Refusal.NotHandedOut)
+  pub not-handed-out : r ≡ Found.Nothing → PlacesHandedOut (areasOf w b) k (Place.Refused Refusal.NotHandedOut) (areasOf w b)
   unfolding placeHandedOut
   not-handed-out h = record {
     answer = rw (le-ltb k (length (cacheOf (tableOf w) b .chance .bodies)) (finds .absent h)) at said;
     within = λ p g. other p g;
     inside = λ p g. other p g;
     holds = λ p c g v. other p g;
+    unchanged = refl;
   }
     where
       other : {A : Type 0} (p : BodyPlace) → (Place.Refused Refusal.NotHandedOut) ≡ Place.At p → A
@@ -135,7 +137,7 @@ module _ (w b : List ℕ) (k : ℕ) {s : Bool} {r : EntryFound} (tested : s ≡ 
   abbrev placeOf : Entry → BodyPlace
   placeOf e = record { place = e .place; len = e .len }
 
-  pub handed-out-at : (e : Entry) → r ≡ Found.At e → PlacesHandedOut (areasOf w b) k (Place.At (placeOf e))
+  pub handed-out-at : (e : Entry) → r ≡ Found.At e → PlacesHandedOut (areasOf w b) k (Place.At (placeOf e)) (areasOf w b)
   unfolding placeHandedOut
   handed-out-at e h = record {
     answer =
@@ -144,6 +146,7 @@ module _ (w b : List ℕ) (k : ℕ) {s : Bool} {r : EntryFound} (tested : s ≡ 
     within = λ p g. let same : placeOf e ≡ p = cc in rw (← same) (finds .within e h);
     inside = λ p g. let same : placeOf e ≡ p = cc in rw (← same) (ends e h);
     holds = λ p c g v. let same : placeOf e ≡ p = cc in rw (← same, ← same-cache c v) (finds .holds e h);
+    unchanged = refl;
   }
     where
       ends : (e : Entry) → r ≡ Found.At e → e .place + e .len ≤ length b
@@ -157,19 +160,24 @@ module _ (w b : List ℕ) (k : ℕ) {s : Bool} {r : EntryFound} (tested : s ≡ 
           ∙ ap length (finds .holds e h)
 
 pub place-damaged : (w b : List ℕ) (k : ℕ) {s : Bool} → s ≡ wellFormed w (length b) → s ≡ false →
-    PlacesHandedOut (areasOf w b) k (Place.Refused Refusal.Damaged)
+    PlacesHandedOut (areasOf w b) k (Place.Refused Refusal.Damaged) (areasOf w b)
 place-damaged w b k tested failed = record {
   answer = damaged (placeHandedOut k) w b tested failed;
   within = λ p g. other p g;
   inside = λ p g. other p g;
   holds = λ p c g v. other p g;
+  unchanged = refl;
 }
   where
     other : {A : Type 0} (p : BodyPlace) → (Place.Refused Refusal.Damaged) ≡ Place.At p → A
     other p g = let z : _≡_ {A = ℕ} 0 1 = cc in absurd (omega arith)
 
+pub reads-handed-out : {a : Areas} {k : ℕ} {bs : List ℕ} → bs ≡ shown (asked (readHandedOut k) (view a)) →
+    ReadsHandedOut a k bs a
+reads-handed-out e = record { part = e; unchanged = refl }
+
 -- What is shown, by the answer of the call beside it.
-module _ (w b : List ℕ) (k : ℕ) (r : PlaceAnswer) (places : PlacesHandedOut (areasOf w b) k r) where
+module _ (w b : List ℕ) (k : ℕ) (r : PlaceAnswer) (places : PlacesHandedOut (areasOf w b) k r (areasOf w b)) where
   pub shown-none : (n : PlaceRefusal) → r ≡ Place.Refused n →
       [] ≡ shown (asked (readHandedOut k) (view (areasOf w b)))
   unfolding placeHandedOut readHandedOut

@@ -21,8 +21,8 @@ use Rattle.cache_model.specs.Bodies.{keep, expired}
 use Rattle.cache_model.specs.Cache.{Cache, Answer, number, says}
 use Rattle.cache_model.specs.Queries.{wouldAccept}
 use Rattle.pending_flows.specs.Live.{liveOf}
-use Rattle.pending_flows.specs.View.{areasOf, cacheOf, view}
-use Rattle.pending_flows.specs.Queries.{asked}
+use Rattle.pending_flows.specs.View.{Areas, areasOf, cacheOf, view}
+use Rattle.pending_flows.specs.Queries.{asked, Asks}
 use Rattle.pending_flows.proofs.Templates.{bodiesOfLabel, bodies-of-id, live-bodies}
 
 -- The test behind 28 was v: then 28, or the question's answer.
@@ -34,6 +34,9 @@ module _ (question : Cache → Answer) (w b : List ℕ) {v : Bool} (tested : v �
   pub answered : v ≡ true → question (cacheOf (tableOf w) b) ≡ asked question (view (areasOf w b))
   unfolding view
   answered h = rw (sym tested ∙ h)
+
+pub asks : {question : Cache → Answer} {a : Areas} {r : Answer} → r ≡ asked question (view a) → Asks question a r a
+asks e = record { answer = e; unchanged = refl }
 
 -- what was tested is known
 pub well-formed : (w : List ℕ) (n : ℕ) {v : Bool} → v ≡ wellFormed w n → v ≡ true → wellFormed w n ≡ true

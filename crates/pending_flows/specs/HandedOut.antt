@@ -1,4 +1,4 @@
--- What the queries on handed-out bodies promise. They change nothing: both areas are only read.
+-- What the queries on handed-out bodies promise.
 use mathlib.Core.Path.{_≡_}
 use mathlib.Core.List.{List, []}
 use mathlib.Core.Option.{some}
@@ -10,7 +10,7 @@ use Rattle.table.specs.declared.EntryFound.the-variants as Found
 use Rattle.table.specs.Layout.{limitsOf}
 use Rattle.table.specs.Table.{tableOf}
 use Rattle.cache_model.specs.Cache.{Cache, Answer, done, number, count, says, shows, spans, tells}
-use Rattle.cache_model.specs.Queries.{placeHandedOut, handedOut}
+use Rattle.cache_model.specs.Queries.{placeHandedOut, readHandedOut, handedOut}
 use Rattle.pending_flows.specs.declared.handed_out.BodyPlace.{BodyPlace}
 use Rattle.pending_flows.specs.declared.handed_out.PlaceRefusal.{PlaceRefusal}
 use Rattle.pending_flows.specs.declared.handed_out.PlaceRefusal.the-variants as Refusal
@@ -40,12 +40,18 @@ placeAnswer (Place.At p) = spans (p .len)
 placeAnswer (Place.Refused n) = number (placeNumber n)
 
 -- A handed-out body's place is free, but it lies within the configured bytes, and there the byte area holds the body.
-pub record PlacesHandedOut (a : Areas) (k : ℕ) (r : PlaceAnswer) : Type 0 where
+pub record PlacesHandedOut (a : Areas) (k : ℕ) (r : PlaceAnswer) (a′ : Areas) : Type 0 where
   pub answer : placeAnswer r ≡ asked (placeHandedOut k) (view a)
   pub within : (p : BodyPlace) → r ≡ Place.At p → p .place + p .len ≤ limitsOf (a .words) .«max_total_bytes»
   pub inside : (p : BodyPlace) → r ≡ Place.At p → p .place + p .len ≤ length (a .bytes)
   pub holds : (p : BodyPlace) (c : Cache) → r ≡ Place.At p → view a ≡ some c →
       take (p .len) (drop (p .place) (a .bytes)) ≡ handedOut k c .bytes
+  pub unchanged : a′ ≡ a
+
+-- Reading shows the body, or no bytes on 27 and 28.
+pub record ReadsHandedOut (a : Areas) (k : ℕ) (bs : List ℕ) (a′ : Areas) : Type 0 where
+  pub part : bs ≡ shown (asked (readHandedOut k) (view a))
+  pub unchanged : a′ ≡ a
 
 -- the same of the entry that is found in a well-formed cache
 pub record FindsHandedOut (w b : List ℕ) (k : ℕ) (r : EntryFound) : Type 0 where

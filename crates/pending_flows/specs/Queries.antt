@@ -1,7 +1,9 @@
--- What the queries promise. They change nothing: both areas are only read.
+-- What the queries promise.
+use mathlib.Core.Path.{_≡_}
 use mathlib.Core.Bool.{true, false}
 use mathlib.Core.Option.{Option, none, some}
 use Rattle.cache_model.specs.Cache.{Cache, Figures, Answer, number, says, tells}
+use Rattle.pending_flows.specs.View.{Areas, view}
 use Rattle.pending_flows.specs.declared.queries.AcceptAnswer.{AcceptAnswer}
 use Rattle.pending_flows.specs.declared.queries.AcceptAnswer.the-variants as Accept
 use Rattle.pending_flows.specs.declared.queries.CacheFigures.{CacheFigures}
@@ -12,6 +14,11 @@ use Rattle.pending_flows.specs.declared.queries.FiguresAnswer.the-varian
 abbrev pub asked : (Cache → Answer) → Option Cache → Answer
 asked question none = number 28
 asked question (some c) = question c
+
+-- A query gives the definition's answer, and leaves the areas as they were.
+pub record Asks (question : Cache → Answer) (a : Areas) (r : Answer) (a′ : Areas) : Type 0 where
+  pub answer : r ≡ asked question (view a)
+  pub unchanged : a′ ≡ a
 
 -- document 01's answer of each case of `would_accept`
 abbrev pub acceptAnswer : AcceptAnswer → Answer

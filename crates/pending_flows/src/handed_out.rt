@@ -3,10 +3,8 @@ ghost use mathlib.Core.Path.{_≡_};
 ghost use mathlib.Core.Bool.{true};
 ghost use lib.ListN.{length};
 ghost use Rattle.table.specs.WellFormed.{wellFormed};
-ghost use Rattle.cache_model.specs.Queries.{readHandedOut};
-ghost use Rattle.pending_flows.specs.View.{areasOf, view};
-ghost use Rattle.pending_flows.specs.Queries.{asked};
-ghost use Rattle.pending_flows.specs.HandedOut.{shown, FindsHandedOut, PlacesHandedOut};
+ghost use Rattle.pending_flows.specs.View.{areasOf};
+ghost use Rattle.pending_flows.specs.HandedOut.{FindsHandedOut, PlacesHandedOut, ReadsHandedOut};
 use config::RECORD_WORDS;
 use table::CHANCE_COUNT;
 use table::ENTRY_COUNT;
@@ -53,7 +51,9 @@ fn find_handed_out(words: &[u64], bytes: &[u8], k: usize) -> EntryFound
 
 // The place and length of handed-out body k.
 pub fn place_handed_out(words: &[u64], bytes: &[u8], k: usize) -> PlaceAnswer
-    ensures { λ r. ⌜ PlacesHandedOut (areasOf (now (words .entry)) (now (bytes .entry))) k r ⌝ }
+    ensures { λ r.
+        ⌜ PlacesHandedOut (areasOf (now (words .entry)) (now (bytes .entry))) k r
+        (areasOf (now (words .exit)) (now (bytes .exit))) ⌝ }
 {
     if table::well_formed(words, bytes.len()) {
         let EntryFound::At(entry) = find_handed_out(words, bytes, k) else {
@@ -70,7 +70,8 @@ pub fn place_handed_out(words: &[u64], bytes: &[u8], k: usize) -> PlaceAnswer
 // Handed-out body k, as a part of the byte area; an empty part where the call beside it answers 27 or 28.
 pub fn read_handed_out<'a>(words: &[u64], bytes: &'a [u8], k: usize) -> &'a [u8]
     ensures { λ r.
-        ⌜ now r ≡ shown (asked (readHandedOut k) (view (areasOf (now (words .entry)) (now (bytes .entry))))) ⌝ }
+        ⌜ ReadsHandedOut (areasOf (now (words .entry)) (now (bytes .entry))) k (now r)
+        (areasOf (now (words .exit)) (now (bytes .exit))) ⌝ }
 {
     let PlaceAnswer::At(body) = place_handed_out(words, bytes, k) else {
         return &bytes[0..0];

@@ -8,8 +8,8 @@ ghost use Rattle.table.specs.Reads.{countSum};
 ghost use Rattle.table.specs.WellFormed.{wellFormed};
 ghost use Rattle.cache_model.specs.Cache.{says, tells};
 ghost use Rattle.cache_model.specs.Queries.{wouldAccept, figures};
-ghost use Rattle.pending_flows.specs.View.{areasOf, cacheOf, view};
-ghost use Rattle.pending_flows.specs.Queries.{asked, acceptAnswer, figuresRecord, figuresAnswer};
+ghost use Rattle.pending_flows.specs.View.{areasOf, cacheOf};
+ghost use Rattle.pending_flows.specs.Queries.{Asks, acceptAnswer, figuresRecord, figuresAnswer};
 ghost use Rattle.pending_flows.specs.Live.{liveOf};
 use config::PendingFlowsConfig;
 use config::RECORD_WORDS;
@@ -66,8 +66,8 @@ fn accepts(words: &[u64], bytes: &[u8], id: u64, len: usize, clock: u64) -> bool
 // Whether an offer would be accepted: yes binds an offer of this id and length at this clock reading, no does not.
 pub fn would_accept(words: &[u64], bytes: &[u8], id: u16, len: usize, clock: u64) -> AcceptAnswer
     ensures { λ r.
-        ⌜ acceptAnswer r ≡ asked (λ c. says (wouldAccept id len clock c))
-        (view (areasOf (now (words .entry)) (now (bytes .entry)))) ⌝ }
+        ⌜ Asks (λ c. says (wouldAccept id len clock c)) (areasOf (now (words .entry)) (now (bytes .entry)))
+        (acceptAnswer r) (areasOf (now (words .exit)) (now (bytes .exit))) ⌝ }
 {
     if table::well_formed(words, bytes.len()) {
         if accepts(words, bytes, id as u64, len, clock) {
@@ -128,8 +128,8 @@ fn figures_of(words: &[u64], bytes: &[u8]) -> CacheFigures
 // Templates and bodies held, the byte total, both counters, and the bodies handed out.
 pub fn take_figures(words: &[u64], bytes: &[u8]) -> FiguresAnswer
     ensures { λ r.
-        ⌜ figuresAnswer r ≡ asked (λ c. tells (figures c))
-        (view (areasOf (now (words .entry)) (now (bytes .entry)))) ⌝ }
+        ⌜ Asks (λ c. tells (figures c)) (areasOf (now (words .entry)) (now (bytes .entry)))
+        (figuresAnswer r) (areasOf (now (words .exit)) (now (bytes .exit))) ⌝ }
 {
     if table::well_formed(words, bytes.len()) {
         return FiguresAnswer::At(figures_of(words, bytes));

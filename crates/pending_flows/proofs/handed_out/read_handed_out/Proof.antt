@@ -1,7 +1,7 @@
 use Prim.Native.Nat.{_+_, _-_}
 use mathlib.Core.Path.{_≡_}
 use native.Mathlib.Omega.{arith}
-use Rattle.pending_flows.proofs.HandedOut.{shown-none, shown-part, part-within}
+use Rattle.pending_flows.proofs.HandedOut.{reads-handed-out, shown-none, shown-part, part-within}
 use borrow.Author.Needs.{needs}
 use Rattle.pending_flows.proofs.handed_out.read_handed_out.Statement.{statement}
 use Rattle.pending_flows.proofs.handed_out.read_handed_out.Tie as tie
@@ -25,8 +25,9 @@ part-result-end : tie.Need-part-result-end
 part-result-end c = search needs
 
 returns : tie.Need-returns
-returns c = shown-none _ _ _ _ (c .before .before .before .place-handed-out .ensures) _
-    (c .before .enum-told .given .1)
+returns c =
+    reads-handed-out
+    (shown-none _ _ _ _ (c .before .before .before .place-handed-out .ensures) _ (c .before .enum-told .given .1))
 
 add-end : tie.Need-add-end
 add-end c = omega (
@@ -51,8 +52,9 @@ part-result-end-2 c = omega (
 returns-2 : tie.Need-returns-2
 returns-2 c = let b = c .before .before .before .body .given .0 .0 in
     let z : b .place + b .len - b .place ≡ b .len = omega arith in
-    rw z (shown-part _ _ _ _ (c .before .before .before .before .before .place-handed-out .ensures) _
-    (c .before .before .before .body .given .1))
+    reads-handed-out
+    (rw z (shown-part _ _ _ _ (c .before .before .before .before .before .place-handed-out .ensures) _
+    (c .before .before .before .body .given .1)))
 
 pub read-handed-out-spec : {M : Type 1} → statement M
 read-handed-out-spec =

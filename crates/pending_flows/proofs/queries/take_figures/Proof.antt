@@ -1,4 +1,4 @@
-use Rattle.pending_flows.proofs.Questions.{well-formed, damaged}
+use Rattle.pending_flows.proofs.Questions.{asks, well-formed, damaged}
 use Rattle.pending_flows.proofs.Figures.{figures-told}
 use borrow.Author.Needs.{needs}
 use Rattle.pending_flows.proofs.queries.take_figures.Statement.{statement}
@@ -11,10 +11,10 @@ figures-of-requires : tie.Need-figures-of-requires
 figures-of-requires c κs = search (well-formed, needs)
 
 returns : tie.Need-returns
-returns c = search (figures-told, needs)
+returns c = search (asks, figures-told, needs)
 
 returns-2 : tie.Need-returns-2
-returns-2 c = search (damaged, needs)
+returns-2 c = search (asks, damaged, needs)
 
 pub take-figures-spec : {M : Type 1} → statement M
 take-figures-spec = tie.close (tie.spec well-formed-requires figures-of-requires returns returns-2)
