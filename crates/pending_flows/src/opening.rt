@@ -63,7 +63,7 @@ fn write_header(words: &mut [u64], config: PendingFlowsConfig)
 pub fn open(config: PendingFlowsConfig, words: &mut [u64], bytes: &[u8]) -> ConfigAnswer
     ensures { λ r.
         ⌜ Opens config (areasOf (now (words .entry)) (now (bytes .entry))) r
-        (areasOf (now (words .exit)) (now (bytes .entry))) ⌝ }
+        (areasOf (now (words .exit)) (now (bytes .exit))) ⌝ }
 {
     let answer = config::validate_config(config, bytes.len(), words.len());
     let ConfigAnswer::Accepted = answer else {
