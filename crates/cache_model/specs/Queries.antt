@@ -21,11 +21,11 @@ noBody = record { number = 0; bytes = []; clock = 0 }
 abbrev pub handedOut : ℕ → Cache → Body
 handedOut k c = getD (c .chance .bodies) k noBody
 
--- its bytes; 27 where k is not below the count handed out
+-- its bytes; "a refused reading shows an empty part", where k is not below the count handed out
 unfoldable pub readHandedOut : ℕ → Cache → Answer
-readHandedOut k c = cond (ltb k (length (c .chance .bodies))) (shows (handedOut k c .bytes)) (number 27)
+readHandedOut k c = shows (cond (ltb k (length (c .chance .bodies))) (handedOut k c .bytes) [])
 
--- its length, beside a place that is free; 27 likewise
+-- "and a call beside it answers the number", 27; else the length, beside a place that is free
 unfoldable pub placeHandedOut : ℕ → Cache → Answer
 placeHandedOut k c = cond (ltb k (length (c .chance .bodies))) (spans (size (handedOut k c))) (number 27)
 

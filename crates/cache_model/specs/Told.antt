@@ -1,8 +1,7 @@
 -- Answers and held bodies in plain numbers, as document 01's cases give them.
 use mathlib.Core.List.{List, [], _∷_, map}
 use mathlib.Core.Bool.{cond}
-use Prim.Native.Nat.{ℕ}
-use lib.ListN.{replicate}
+use Prim.Native.Nat.{ℕ, zero, suc}
 use Rattle.config.specs.declared.PendingFlowsConfig.{PendingFlowsConfig}
 use Rattle.config.specs.declared.Ttl.{Ttl}
 use Rattle.cache_model.specs.Bodies.{Template, size}
@@ -10,15 +9,15 @@ use Rattle.cache_model.specs.Cache.{Answer, done, number, count, says, s
 use Rattle.cache_model.specs.Calls.{opened}
 use Rattle.cache_model.specs.History.{Call, Offer, after, answers}
 
--- 0 for done; a refusal's number; a count; 1 for yes and 0 for no; bytes; a length; the six figures
+-- a refusal's number, or 0 and the values: a count; 1 for yes and 0 for no; bytes; a length; the six figures
 abbrev pub told : Answer → List ℕ
 told done = 0 ∷ []
 told (number n) = n ∷ []
-told (count n) = n ∷ []
-told (says b) = cond b 1 0 ∷ []
-told (shows bs) = bs
-told (spans n) = n ∷ []
-told (tells f) = f .templates ∷ f .bodies ∷ f .bytes ∷ f .cached ∷ f .dropped ∷ f .handed ∷ []
+told (count n) = 0 ∷ n ∷ []
+told (says b) = 0 ∷ cond b 1 0 ∷ []
+told (shows bs) = 0 ∷ bs
+told (spans n) = 0 ∷ n ∷ []
+told (tells f) = 0 ∷ f .templates ∷ f .bodies ∷ f .bytes ∷ f .cached ∷ f .dropped ∷ f .handed ∷ []
 
 -- a template's id, and the lengths of its bodies
 abbrev pub idAndSizes : Template → List ℕ
@@ -34,9 +33,14 @@ limitsOf templates bodies entry total ttl = record {
   ttl = ttl;
 }
 
+-- n bytes from this one on: "byte i of a body is i modulo 256", for the short bodies of the cases
+abbrev pub bytesFrom : ℕ → ℕ → List ℕ
+bytesFrom i zero = []
+bytesFrom i (suc n) = i ∷ bytesFrom (suc i) n
+
 -- the offer id/length/clock
 abbrev pub offerOf : ℕ → ℕ → ℕ → Call
-offerOf i n now = Offer i (replicate n 0) now
+offerOf i n now = Offer i (bytesFrom 0 n) now
 
 -- each call's answer
 abbrev pub answersTo : PendingFlowsConfig → List Call → List (List ℕ)

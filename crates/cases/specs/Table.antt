@@ -94,9 +94,9 @@ table =
       asks = calls small (upToEviction ++ upToFull ++ upToFigures);
       says =
           (0 ∷ []) ∷ (0 ∷ []) ∷ (0 ∷ []) ∷ (0 ∷ []) ∷ (0 ∷ []) ∷ (20 ∷ []) ∷
-          (1 ∷ []) ∷ (0 ∷ []) ∷ (1 ∷ []) ∷ (0 ∷ []) ∷ (1 ∷ 1 ∷ 4 ∷ 6 ∷ 5 ∷ 1 ∷ []) ∷ [];
+          (0 ∷ 1 ∷ []) ∷ (0 ∷ []) ∷ (0 ∷ 1 ∷ []) ∷ (0 ∷ 0 ∷ []) ∷ (0 ∷ 1 ∷ 1 ∷ 4 ∷ 6 ∷ 5 ∷ 1 ∷ []) ∷ [];
     }
-    ∷ record { asks = calls (limitsOf 1 1 10 10 None) noThenOffer; says = (0 ∷ []) ∷ (0 ∷ []) ∷ (0 ∷ []) ∷ [] }
+    ∷ record { asks = calls (limitsOf 1 1 10 10 None) noThenOffer; says = (0 ∷ []) ∷ (0 ∷ 0 ∷ []) ∷ (0 ∷ []) ∷ [] }
     ∷ []
 
 pub cases-hold : map (λ (row : Row). told (row .asks)) table ≡ map (λ (row : Row). row .says) table

@@ -149,9 +149,7 @@ call-tells k Clear c h = tells-no-refusal done c [] (allBodies (c .held)) (omega
 call-tells k (WouldAccept i n now) c h =
     tells-nothing (says (wouldAccept i n now c)) noChange refl refl (omega arith)
 call-tells k (ReadHandedOut n) c h =
-    let shown = shows (handedOut n c .bytes) in
-    tells-nothing (readHandedOut n c) noChange refl refl
-    (or-27-below28 (ltb n (length (c .chance .bodies))) shown (omega arith))
+    tells-nothing (readHandedOut n c) noChange refl refl (omega arith)
 call-tells k (PlaceHandedOut n) c h =
     let span = spans (size (handedOut n c)) in
     tells-nothing (placeHandedOut n c) noChange refl refl

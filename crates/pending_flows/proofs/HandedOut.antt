@@ -185,7 +185,7 @@ module _ (w b : List ℕ) (k : ℕ) (r : PlaceAnswer) (places : PlacesHandedOut 
     where
       by-count : (c : Cache) (x : Bool) → number (placeNumber n) ≡ cond x (spans (length (handedOut k c .bytes)))
           (number 27) →
-          [] ≡ shown (cond x (shows (handedOut k c .bytes)) (number 27))
+          [] ≡ cond x (handedOut k c .bytes) []
       by-count c true e = let z : _≡_ {A = ℕ} 0 1 = cc in absurd (omega arith)
       by-count c false e = refl
 
@@ -203,7 +203,7 @@ module _ (w b : List ℕ) (k : ℕ) (r : PlaceAnswer) (places : PlacesHandedOut 
       by-count : (c : Cache) (x : Bool) → spans (p .len) ≡ cond x (spans (length (handedOut k c .bytes)))
           (number 27) →
           take (p .len) (drop (p .place) b) ≡ handedOut k c .bytes →
-          take (p .len) (drop (p .place) b) ≡ shown (cond x (shows (handedOut k c .bytes)) (number 27))
+          take (p .len) (drop (p .place) b) ≡ cond x (handedOut k c .bytes) []
       by-count c true e g = g
       by-count c false e g = let z : _≡_ {A = ℕ} 0 1 = cc in absurd (omega arith)
 
