@@ -1,7 +1,7 @@
 -- The decoded-output budget (document 01, numbers 23, 24 and 26). `.0` of a count is its number.
 use mathlib.Core.Path.{_≡_}
 use mathlib.Core.Bool.{Bool, true, false, cond, _||_}
-use mathlib.Core.List.{[], _∷_}
+use mathlib.Core.List.{List, [], _∷_}
 use Prim.Native.Nat.{ℕ, _+_, _-_, _≤_, _^_, min, max}
 use lib.Dec.{ltb, eqb}
 use Rattle.output_preflight.specs.declared.FieldValues.{FieldValues}
@@ -86,17 +86,18 @@ abbrev pub limitOf : DecodedOutputLimit → ℕ
 limitOf Limit.FieldValues = 1
 limitOf Limit.FieldPayloadBytes = 2
 
--- an excess tells the limit, the configured figure and the attempted sum
-abbrev pub toldOfExcess : OutputBudgetExceeded → Told
-toldOfExcess e = record {
-  number = numberOf (e .limit);
-  values = limitOf (e .limit) ∷ e .configured ∷ e .attempted ∷ [];
-}
+-- the values of an excess: the limit, the configured figure and the attempted sum
+abbrev pub valuesOfExcess : OutputBudgetExceeded → List ℕ
+valuesOfExcess e = limitOf (e .limit) ∷ e .configured ∷ e .attempted ∷ []
 
--- what each answer of `take_exceeded` tells
+-- a reservation that is refused tells the number of the limit, and its excess
+abbrev pub toldOfExcess : OutputBudgetExceeded → Told
+toldOfExcess e = record { number = numberOf (e .limit); values = valuesOfExcess e }
+
+-- what each answer of `take_exceeded` tells: it is always done, and has no values where none is recorded
 abbrev pub toldOfExceeded : Exceeded → Told
 toldOfExceeded None = done
-toldOfExceeded (Recorded e) = toldOfExcess e
+toldOfExceeded (Recorded e) = record { number = 0; values = valuesOfExcess e }
 
 -- what each answer of `reserve` tells
 abbrev pub toldOfReserve : ReserveAnswer → Told

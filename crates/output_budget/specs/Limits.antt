@@ -1,14 +1,23 @@
 -- The limits call (document 01, numbers 9, 10 and 11).
 use mathlib.Core.Bool.{cond}
 use mathlib.Core.List.{[], _∷_}
-use Prim.Native.Nat.{ℕ}
+use Prim.Native.Nat.{ℕ, _*_}
 use lib.Dec.{eqb}
 use Rattle.output_preflight.specs.declared.FieldValues.{FieldValues}
 use Rattle.output_preflight.specs.declared.PayloadBytes.{PayloadBytes}
+use Rattle.output_budget.specs.declared.limits.DecodedOutputLimits.{DecodedOutputLimits}
 use Rattle.output_budget.specs.declared.limits.LimitsAnswer.{LimitsAnswer}
 use Rattle.output_budget.specs.declared.limits.LimitsAnswer.the-variants.{Accepted, Refused}
 use Rattle.output_budget.specs.declared.limits.LimitsRefusal.the-variants as Refusal
 use Rattle.output_budget.specs.Told.{Told, refusal}
+
+-- the limits unless configured: 1,024 records of a flow set, 65,536 field values and 4 MiB of payload of a message
+abbrev pub defaultLimits : DecodedOutputLimits
+defaultLimits = record {
+  «max_records» = 1024;
+  «max_field_values» = record { 0 = 65536 };
+  «max_field_payload_bytes» = record { 0 = 4 * 1024 * 1024 };
+}
 
 -- the limits are taken, and told again
 abbrev pub accepted : ℕ → FieldValues → PayloadBytes → Told

@@ -3,8 +3,11 @@ use crate::budget::DecodedOutputBudget;
 use output_preflight::FieldValues;
 use output_preflight::PayloadBytes;
 ghost use mathlib.Core.Path.{_≡_};
-ghost use Rattle.output_budget.specs.Limits.{toldOfLimits, limitsTold};
+ghost use Rattle.output_budget.specs.Limits.{toldOfLimits, limitsTold, defaultLimits};
 ghost use Rattle.output_budget.specs.Budget.{opened};
+
+// The most records of one flow set, unless configured.
+pub const DEFAULT_MAX_RECORDS_PER_FLOWSET: usize = 1024;
 
 // The most field values that one message decodes to, unless configured.
 pub const DEFAULT_MAX_DECODED_FIELD_VALUES_PER_MESSAGE: usize = 65536;
@@ -12,7 +15,7 @@ pub const DEFAULT_MAX_DECODED_FIELD_VALUES_PER_MESSAGE: usize = 65536;
 // The most field payload bytes that one message decodes to, unless configured.
 pub const DEFAULT_MAX_DECODED_FIELD_PAYLOAD_BYTES_PER_MESSAGE: usize = 4194304;
 
-// The limits of one body: records, field values and payload bytes, none of them 0.
+// The limits of one message: records of a flow set, field values and payload bytes. `new` makes none with a 0.
 pub struct DecodedOutputLimits {
     pub max_records: usize,
     pub max_field_values: FieldValues,
@@ -55,6 +58,19 @@ impl DecodedOutputLimits {
             max_field_values,
             max_field_payload_bytes,
         })
+    }
+
+    // The limits of a message unless configured.
+    pub fn defaults() -> DecodedOutputLimits
+        ensures { λ r. ⌜ r ≡ defaultLimits ⌝ }
+    {
+        DecodedOutputLimits {
+            max_records: DEFAULT_MAX_RECORDS_PER_FLOWSET,
+            max_field_values: FieldValues(DEFAULT_MAX_DECODED_FIELD_VALUES_PER_MESSAGE),
+            max_field_payload_bytes: PayloadBytes(
+                DEFAULT_MAX_DECODED_FIELD_PAYLOAD_BYTES_PER_MESSAGE,
+            ),
+        }
     }
 
     // An unused budget with these limits.

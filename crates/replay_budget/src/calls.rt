@@ -137,6 +137,52 @@ fn told_exceeded(exceeded: Exceeded, budget: DecodedOutputBudget) -> Answered {
     }
 }
 
+// Whether two excesses are the same.
+fn same_excess(a: OutputBudgetExceeded, b: OutputBudgetExceeded) -> bool {
+    let limit_a = a.limit;
+    let limit_b = b.limit;
+    if limit_word(limit_a) != limit_word(limit_b) {
+        return false;
+    }
+    if a.configured != b.configured {
+        return false;
+    }
+    a.attempted == b.attempted
+}
+
+// Whether two records are the same: none, or the same excess.
+fn same_exceeded(a: Exceeded, b: Exceeded) -> bool {
+    match a {
+        Exceeded::None => match b {
+            Exceeded::None => true,
+            Exceeded::Recorded(_) => false,
+        },
+        Exceeded::Recorded(excess_a) => match b {
+            Exceeded::None => false,
+            Exceeded::Recorded(excess_b) => same_excess(excess_a, excess_b),
+        },
+    }
+}
+
+// Whether two budgets are the same: limits, use and record.
+fn same_budgets(a: DecodedOutputBudget, b: DecodedOutputBudget) -> bool {
+    if a.max_values.0 != b.max_values.0 {
+        return false;
+    }
+    if a.max_payload_bytes.0 != b.max_payload_bytes.0 {
+        return false;
+    }
+    if a.used_values.0 != b.used_values.0 {
+        return false;
+    }
+    if a.used_payload_bytes.0 != b.used_payload_bytes.0 {
+        return false;
+    }
+    let exceeded_a = a.exceeded;
+    let exceeded_b = b.exceeded;
+    same_exceeded(exceeded_a, exceeded_b)
+}
+
 // Whether two answers and the budgets after them are the same.
 fn same(a: Answered, b: Answered) -> bool {
     if a.number != b.number {
@@ -151,10 +197,9 @@ fn same(a: Answered, b: Answered) -> bool {
     if a.x3 != b.x3 {
         return false;
     }
-    if a.budget.used_values.0 != b.budget.used_values.0 {
-        return false;
-    }
-    a.budget.used_payload_bytes.0 == b.budget.used_payload_bytes.0
+    let budget_a = a.budget;
+    let budget_b = b.budget;
+    same_budgets(budget_a, budget_b)
 }
 
 // The answer by value, noting whether the lent form answered the same.
