@@ -100,7 +100,7 @@ table =
     ∷ []
 
 pub cases-hold : map (λ (row : Row). told (row .asks)) table ≡ map (λ (row : Row). row .says) table
-unfolding leastSize isComplete variableField fieldOf fieldsOf recordOf recordsFrom figures scanOf preflightOf reserveTold
-    evicted evictions pruned step2 step3 step4 step5 addNewest step4or5 afterStep3 afterStep2 steps2to5
+unfolding leastSize isComplete variableField fieldOf fieldsOf recordOf recordsFrom figures scanOf preflightOf
+    reserveTold evicted evictions pruned step2 step3 step4 step5 addNewest step4or5 afterStep3 afterStep2 steps2to5
     appended refusedSize settled offered drained wouldAccept readHandedOut cacheFigures does after answers
 cases-hold = refl

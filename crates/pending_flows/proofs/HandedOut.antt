@@ -121,7 +121,8 @@ module _ (w b : List ℕ) (k : ℕ) {s : Bool} {r : EntryFound} (tested : s ≡ 
       some-is : some (cacheOf (tableOf w) b) ≡ some c → cacheOf (tableOf w) b ≡ c
       some-is h = cc
 
-  pub not-handed-out : r ≡ Found.Nothing → PlacesHandedOut (areasOf w b) k (Place.Refused Refusal.NotHandedOut) (areasOf w b)
+  pub not-handed-out : r ≡ Found.Nothing →
+      PlacesHandedOut (areasOf w b) k (Place.Refused Refusal.NotHandedOut) (areasOf w b)
   unfolding placeHandedOut
   not-handed-out h = record {
     answer = rw (le-ltb k (length (cacheOf (tableOf w) b .chance .bodies)) (finds .absent h)) at said;
@@ -137,7 +138,8 @@ module _ (w b : List ℕ) (k : ℕ) {s : Bool} {r : EntryFound} (tested : s ≡ 
   abbrev placeOf : Entry → BodyPlace
   placeOf e = record { place = e .place; len = e .len }
 
-  pub handed-out-at : (e : Entry) → r ≡ Found.At e → PlacesHandedOut (areasOf w b) k (Place.At (placeOf e)) (areasOf w b)
+  pub handed-out-at : (e : Entry) → r ≡ Found.At e →
+      PlacesHandedOut (areasOf w b) k (Place.At (placeOf e)) (areasOf w b)
   unfolding placeHandedOut
   handed-out-at e h = record {
     answer =
