@@ -5,5 +5,6 @@ pub mod Offer
 pub mod Calls
 pub mod Queries
 pub mod History
+pub mod Reply
 pub mod Told
 pub mod Tests

@@ -2,6 +2,7 @@
 -- computation.
 use mathlib.Core.Path.{_≡_, refl}
 use mathlib.Core.List.{List, [], _∷_, _++_, map}
+use mathlib.Core.Option.{none, some}
 use Prim.Native.Nat.{ℕ}
 use Rattle.config.specs.declared.PendingFlowsConfig.{PendingFlowsConfig}
 use Rattle.config.specs.declared.Ttl.the-variants.{None, After}
@@ -14,7 +15,8 @@ use Rattle.cache_model.specs.Queries.{wouldAccept, readHandedOut, placeH
 use Rattle.cache_model.specs.Calls.{drained, restored, putBack, shrunk, resizedTo, resized, cleared}
 use Rattle.cache_model.specs.History.{Call, Drain, PutBack, Resize, Clear, WouldAccept, ReadHandedOut}
 use Rattle.cache_model.specs.History.{PlaceHandedOut, TakeFigures, does, after, answers}
-use Rattle.cache_model.specs.Told.{limitsOf, offerOf, answersTo, heldAfter}
+use Rattle.cache_model.specs.Reply.{opening, replies}
+use Rattle.cache_model.specs.Told.{told, limitsOf, offerOf, answersTo, heldAfter}
 
 record Row : Type 0 where
   limits : PendingFlowsConfig
@@ -113,3 +115,27 @@ unfolding configNumber limitsNumber areasHold evicted evictions pruned capped st
     appended refusedSize settled offered drained restored putBack shrunk resizedTo resized cleared wouldAccept
     readHandedOut placeHandedOut figures does after answers
 readings-right = refl
+
+-- every call on damaged areas answers 28, before all else: the offer is too long, the new limits are refused, there is
+-- no chance, a put-back of 0 would succeed
+abbrev everyCall : List Call
+everyCall =
+    offerOf 300 3 0 ∷ Drain 300 0 ∷ PutBack 300 1 ∷ PutBack 300 0 ∷ Resize (limitsOf 0 1 1 1 None) 4 100 ∷ Clear
+    ∷ WouldAccept 300 1 0 ∷ ReadHandedOut 0 ∷ PlaceHandedOut 0 ∷ TakeFigures ∷ []
+
+pub damaged-first : map told (replies everyCall none) ≡ map (λ x. 28 ∷ []) everyCall
+unfolding replies
+damaged-first = refl
+
+-- an opening is refused with the first of its numbers, damaged areas or not, and else leaves an empty cache
+abbrev openings : List (List ℕ)
+openings =
+    map
+    (λ (l : PendingFlowsConfig). told (opening l 4 100 none .answer))
+    (limitsOf 0 0 0 0 None ∷ limitsOf 1 0 0 0 None ∷ limitsOf 1 1 0 0 None ∷ limitsOf 1 1 65532 0 None
+    ∷ limitsOf 1 1 5 4 None ∷ limitsOf 1 1 5 5 None ∷ limitsOf 8 1 4 4 None ∷ limitsOf 3 1 4 4 None ∷ [])
+
+pub openings-numbered : openings
+    ≡ (1 ∷ []) ∷ (2 ∷ []) ∷ (3 ∷ []) ∷ (3 ∷ []) ∷ (4 ∷ []) ∷ (5 ∷ []) ∷ (5 ∷ []) ∷ (0 ∷ []) ∷ []
+unfolding configNumber limitsNumber areasHold opening
+openings-numbered = refl

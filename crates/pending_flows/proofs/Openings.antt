@@ -1,11 +1,11 @@
 -- Areas before and after an opening. Assumes nothing.
 use mathlib.Core.Path.{_≡_, refl, ap, sym, _∙_}
-use mathlib.Core.Bool.{true}
+use mathlib.Core.Bool.{true, false}
 use mathlib.Core.List.{List, [], _∷_, _++_}
 use mathlib.Core.Option.{some}
 use Prim.Native.Nat.{ℕ, _+_, _-_, _≤_}
 use native.Mathlib.Omega.{arith}
-use lib.Dec.{leb}
+use lib.Dec.{eqb, leb}
 use lib.ListN.{length, drop, length-drop}
 use lib.Seq.{drop-drop, drop-append-add}
 use borrow.Author.Tests.{le-leb, eq-eqb}
@@ -17,13 +17,14 @@ use Rattle.config.specs.declared.ConfigRefusal.{ConfigRefusal}
 use Rattle.config.specs.declared.ConfigRefusal.the-variants.{NoTemplates, NoEntries, EntrySize, TotalBytes, Areas}
 use Rattle.config.specs.declared.ConfigAnswer.{ConfigAnswer}
 use Rattle.config.specs.declared.ConfigAnswer.the-variants.{Accepted, Refused}
-use Rattle.config.specs.Limits.{answerNumber, configNumber, wordsNeeded, maxBodies}
+use Rattle.config.specs.Limits.{answerNumber, refusalNumber, configNumber, wordsNeeded, maxBodies}
 use Rattle.config.proofs.Limits.{limits-say}
 use Rattle.table.specs.Layout.{ttlOf, limitsOf}
 use Rattle.table.specs.Table.{entriesFrom, recordsFrom, indexFrom}
 use Rattle.table.specs.WellFormed.{wellFormed, indexRises}
 use Rattle.cache_model.specs.Told.{limitsOf as limitsFrom}
 use Rattle.cache_model.specs.Calls.{opened}
+use Rattle.cache_model.specs.Reply.{opening}
 use Rattle.pending_flows.specs.Header.{ttlFlag, ttlWord, openedHeader}
 use Rattle.pending_flows.specs.View.{areasOf, view}
 use Rattle.pending_flows.specs.Opening.{Opens}
@@ -78,34 +79,39 @@ module _ (l : PendingFlowsConfig) (w b : List ℕ) (ok : configNumber l (length 
 -- a refused opening changes nothing
 pub opening-refused : (l : PendingFlowsConfig) (w b : List ℕ) (a : ConfigAnswer) (n : ConfigRefusal) → a ≡ Refused n →
     answerNumber a ≡ configNumber l (length b) (length w) → Opens l (areasOf w b) a (areasOf w b)
-opening-refused l w b a n e f = record {
-  number = f;
-  refused = λ _. refl;
-  opens = λ z. absurd (never n (ap answerNumber (sym e) ∙ z));
-  bytes = refl;
-  frame = λ _. refl;
-  long = refl;
-}
+unfolding opening
+opening-refused l w b a n e f =
+    let g : configNumber l (length b) (length w) ≡ refusalNumber n = sym f ∙ ap answerNumber e in
+    let no : eqb (configNumber l (length b) (length w)) 0 ≡ false = rw g (not-zero n) in
+    rw e
+    (record {
+      answer = rw (no, g);
+      holds = rw no;
+      refused = λ _. refl;
+      bytes = refl;
+      frame = λ _. refl;
+      long = refl;
+    })
   where
-    never : (n : ConfigRefusal) → answerNumber (Refused n) ≡ 0 → ⊥
-    never NoTemplates z = omega arith
-    never NoEntries z = omega arith
-    never EntrySize z = omega arith
-    never TotalBytes z = omega arith
-    never Areas z = omega arith
+    not-zero : (n : ConfigRefusal) → eqb (refusalNumber n) 0 ≡ false
+    not-zero NoTemplates = refl
+    not-zero NoEntries = refl
+    not-zero EntrySize = refl
+    not-zero TotalBytes = refl
+    not-zero Areas = refl
 
 -- an accepted one writes the header
 pub opening-done : (l : PendingFlowsConfig) (w b w′ : List ℕ) (a : ConfigAnswer) → a ≡ Accepted →
     answerNumber a ≡ configNumber l (length b) (length w) → w′ ≡ overwritten w (openedHeader l) →
     Opens l (areasOf w b) a (areasOf w′ b)
-unfolding overwritten
+unfolding overwritten opening
 opening-done l w b w′ a e f g =
     let ok : configNumber l (length b) (length w) ≡ 0 = sym f ∙ ap answerNumber e in
-    rw g
+    rw (g, e)
     (record {
-      number = f;
-      refused = λ h. absurd (h (ap answerNumber e));
-      opens = λ _. newly-opened l w b ok;
+      answer = rw ok;
+      holds = rw ok (newly-opened l w b ok);
+      refused = λ h. absurd (h refl);
       bytes = refl;
       frame = λ _. behind l w b ok;
       long = same-length l w b ok;

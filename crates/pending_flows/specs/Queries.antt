@@ -1,8 +1,9 @@
 -- What the queries promise.
 use mathlib.Core.Path.{_≡_}
 use mathlib.Core.Bool.{true, false}
-use mathlib.Core.Option.{Option, none, some}
+use mathlib.Core.Option.{Option}
 use Rattle.cache_model.specs.Cache.{Cache, Figures, Answer, number, says, tells}
+use Rattle.cache_model.specs.Reply.{called}
 use Rattle.pending_flows.specs.View.{Areas, view}
 use Rattle.pending_flows.specs.declared.queries.AcceptAnswer.{AcceptAnswer}
 use Rattle.pending_flows.specs.declared.queries.AcceptAnswer.the-variants as Accept
@@ -12,8 +13,7 @@ use Rattle.pending_flows.specs.declared.queries.FiguresAnswer.the-varian
 
 -- a question asked of areas: 28 where they hold no well-formed cache
 abbrev pub asked : (Cache → Answer) → Option Cache → Answer
-asked question none = number 28
-asked question (some c) = question c
+asked question v = called (λ c. record { answer = question c; cache = c }) v .answer
 
 -- A query gives the definition's answer, and leaves the areas as they were.
 pub record Asks (question : Cache → Answer) (a : Areas) (r : Answer) (a′ : Areas) : Type 0 where
