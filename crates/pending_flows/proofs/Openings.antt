@@ -25,7 +25,8 @@ use Rattle.table.specs.WellFormed.{wellFormed, indexRises}
 use Rattle.cache_model.specs.Told.{limitsOf as limitsFrom}
 use Rattle.cache_model.specs.Calls.{opened}
 use Rattle.cache_model.specs.Reply.{opening}
-use Rattle.pending_flows.specs.Header.{ttlFlag, ttlWord, openedHeader}
+use Rattle.pending_flows.specs.declared.header.HeaderFigures.{HeaderFigures}
+use Rattle.pending_flows.specs.Header.{ttlFlag, ttlWord, headerOf, openedHeader}
 use Rattle.pending_flows.specs.View.{areasOf, view}
 use Rattle.pending_flows.specs.Opening.{Opens}
 
@@ -123,10 +124,10 @@ pub header-fits : (l : PendingFlowsConfig) (w b : List ℕ) (a : ConfigAnswer) �
 header-fits l w b a e f = omega (arith, room l w b (sym f ∙ ap answerNumber e))
 
 -- the header from its parts
-pub header-written : (l : PendingFlowsConfig) (w w′ : List ℕ) (set ttl : ℕ) → set ≡ ttlFlag (l .ttl) →
-    ttl ≡ ttlWord (l .ttl) →
+pub header-written : (l : PendingFlowsConfig) (f : HeaderFigures) (w w′ : List ℕ) (set ttl : ℕ) →
+    set ≡ ttlFlag (l .ttl) → ttl ≡ ttlWord (l .ttl) →
     w′ ≡ overwritten w
     (l .«max_pending_flows» ∷ l .«max_entries_per_template» ∷ l .«max_entry_size_bytes» ∷ l .«max_total_bytes»
-    ∷ set ∷ ttl ∷ 0 ∷ 0 ∷ 0 ∷ 0 ∷ 0 ∷ 0 ∷ []) →
-    w′ ≡ overwritten w (openedHeader l)
-header-written l w w′ set ttl e f g = g ∙ rw (e, f)
+    ∷ set ∷ ttl ∷ f .cached ∷ f .dropped ∷ f .total ∷ f .templates ∷ f .entries ∷ f .chance ∷ []) →
+    w′ ≡ overwritten w (headerOf l f)
+header-written l f w w′ set ttl e x g = g ∙ rw (e, x)

@@ -1,5 +1,6 @@
 // The pending flow cache in lent areas (pending_flows.rs).
 mod handed_out;
+mod header;
 mod opening;
 mod queries;
 
@@ -8,6 +9,8 @@ pub use handed_out::PlaceAnswer;
 pub use handed_out::PlaceRefusal;
 pub use handed_out::place_handed_out;
 pub use handed_out::read_handed_out;
+pub use header::HeaderFigures;
+pub use header::write_header;
 pub use opening::open;
 pub use queries::AcceptAnswer;
 pub use queries::CacheFigures;

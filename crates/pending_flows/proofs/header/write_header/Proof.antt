@@ -1,7 +1,7 @@
 use Rattle.pending_flows.proofs.Openings.{header-written}
 use borrow.Author.Needs.{needs}
-use Rattle.pending_flows.proofs.opening.write_header.Statement.{statement}
-use Rattle.pending_flows.proofs.opening.write_header.Tie as tie
+use Rattle.pending_flows.proofs.header.write_header.Statement.{statement}
+use Rattle.pending_flows.proofs.header.write_header.Tie as tie
 
 ttl-set-requires : tie.Need-ttl-set-requires
 ttl-set-requires c κs = search needs
