@@ -4,6 +4,7 @@ use Prim.Native.Nat.{ℕ}
 use Rattle.config.specs.declared.Ttl.{Ttl}
 use Rattle.config.specs.declared.Ttl.the-variants.{None, After}
 use Rattle.config.specs.declared.PendingFlowsConfig.{PendingFlowsConfig}
+use Rattle.table.specs.Layout.{cachedWord, droppedWord, totalWord, heldCount, entryCount, chanceCount}
 use Rattle.pending_flows.specs.declared.header.HeaderFigures.{HeaderFigures}
 
 -- whether a TTL is set, and the TTL, as words
@@ -14,6 +15,17 @@ ttlFlag (After t) = 1
 abbrev pub ttlWord : Ttl → ℕ
 ttlWord None = 0
 ttlWord (After t) = t
+
+-- the figures that words hold
+abbrev pub figuresAt : List ℕ → HeaderFigures
+figuresAt w = record {
+  cached = cachedWord w;
+  dropped = droppedWord w;
+  total = totalWord w;
+  templates = heldCount w;
+  entries = entryCount w;
+  chance = chanceCount w;
+}
 
 abbrev pub headerOf : PendingFlowsConfig → HeaderFigures → List ℕ
 headerOf l f =

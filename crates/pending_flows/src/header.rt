@@ -3,9 +3,16 @@ ghost use mathlib.Core.Path.{_≡_};
 ghost use Prim.Native.Nat.{_≤_};
 ghost use lib.ListN.{length};
 ghost use Rattle.areas.specs.Overwrite.{overwritten};
-ghost use Rattle.pending_flows.specs.Header.{ttlFlag, ttlWord, headerOf};
+ghost use Rattle.config.specs.Limits.{headerWords};
+ghost use Rattle.pending_flows.specs.Header.{ttlFlag, ttlWord, figuresAt, headerOf};
 use config::PendingFlowsConfig;
 use config::Ttl;
+use table::CACHED;
+use table::CHANCE_COUNT;
+use table::DROPPED;
+use table::ENTRY_COUNT;
+use table::HELD_COUNT;
+use table::TOTAL;
 
 // The header's words behind the limits.
 pub struct HeaderFigures {
@@ -35,6 +42,21 @@ fn ttl_word(ttl: Ttl) -> u64
     match ttl {
         Ttl::None => 0,
         Ttl::After(ttl) => ttl,
+    }
+}
+
+// The figures that the header holds.
+pub fn figures_at(words: &[u64]) -> HeaderFigures
+    requires { ⌜ headerWords ≤ length (now words) ⌝ }
+    ensures { λ r. ⌜ r ≡ figuresAt (now (words .entry)) ⌝ }
+{
+    HeaderFigures {
+        cached: words[CACHED],
+        dropped: words[DROPPED],
+        total: words[TOTAL],
+        templates: words[HELD_COUNT],
+        entries: words[ENTRY_COUNT],
+        chance: words[CHANCE_COUNT],
     }
 }
 

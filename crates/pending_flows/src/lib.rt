@@ -10,6 +10,7 @@ pub use handed_out::PlaceRefusal;
 pub use handed_out::place_handed_out;
 pub use handed_out::read_handed_out;
 pub use header::HeaderFigures;
+pub use header::figures_at;
 pub use header::write_header;
 pub use opening::open;
 pub use queries::AcceptAnswer;
