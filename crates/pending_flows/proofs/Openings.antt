@@ -17,7 +17,7 @@ use Rattle.config.specs.declared.ConfigRefusal.{ConfigRefusal}
 use Rattle.config.specs.declared.ConfigRefusal.the-variants.{NoTemplates, NoEntries, EntrySize, TotalBytes, Areas}
 use Rattle.config.specs.declared.ConfigAnswer.{ConfigAnswer}
 use Rattle.config.specs.declared.ConfigAnswer.the-variants.{Accepted, Refused}
-use Rattle.config.specs.Limits.{answerNumber, refusalNumber, configNumber, wordsNeeded, maxBodies}
+use Rattle.config.specs.Limits.{answerNumber, refusalNumber, configNumber, headerWords, wordsNeeded, maxBodies}
 use Rattle.config.proofs.Limits.{limits-say}
 use Rattle.table.specs.Layout.{ttlOf, limitsOf}
 use Rattle.table.specs.Table.{entriesFrom, recordsFrom, indexFrom}
@@ -120,7 +120,7 @@ opening-done l w b w′ a e f g =
 
 -- legal limits leave room for the header
 pub header-fits : (l : PendingFlowsConfig) (w b : List ℕ) (a : ConfigAnswer) → a ≡ Accepted →
-    answerNumber a ≡ configNumber l (length b) (length w) → 12 ≤ length w
+    answerNumber a ≡ configNumber l (length b) (length w) → headerWords ≤ length w
 header-fits l w b a e f = omega (arith, room l w b (sym f ∙ ap answerNumber e))
 
 -- the header from its parts

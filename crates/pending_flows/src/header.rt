@@ -62,7 +62,7 @@ pub fn figures_at(words: &[u64]) -> HeaderFigures
 
 // Writes the limits and the figures.
 pub fn write_header(words: &mut [u64], config: PendingFlowsConfig, figures: HeaderFigures)
-    requires { ⌜ 12 ≤ length (now words) ⌝ }
+    requires { ⌜ headerWords ≤ length (now words) ⌝ }
     ensures { λ _. ⌜ now (words .exit) ≡ overwritten (now (words .entry)) (headerOf config figures) ⌝ }
 {
     let ttl = config.ttl;

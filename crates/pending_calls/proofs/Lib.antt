@@ -1,0 +1,3 @@
+pub mod Performed
+pub mod Headers
+pub mod Clearings
