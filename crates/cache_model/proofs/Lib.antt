@@ -9,3 +9,4 @@ pub mod Calls
 pub mod Numbers
 pub mod Pruning
 pub mod Acceptance
+pub mod Thinning
