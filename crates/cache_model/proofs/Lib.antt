@@ -10,3 +10,5 @@ pub mod Numbers
 pub mod Pruning
 pub mod Acceptance
 pub mod Thinning
+pub mod Drops
+pub mod Shrinking
