@@ -12,3 +12,4 @@ pub mod Acceptance
 pub mod Thinning
 pub mod Drops
 pub mod Shrinking
+pub mod Plans

@@ -30,6 +30,10 @@ abbrev pub firstId : List Template → ℕ
 firstId [] = 0
 firstId (t ∷ ts) = t .id
 
+pub none-either-way : (q : Bool) → _≡_ {A = List Body} (cond q [] []) []
+none-either-way true = refl
+none-either-way false = refl
+
 -- ---- which bodies a thinning leaves
 
 module _ (f g : ℕ → List Body → List Body) where
@@ -194,6 +198,13 @@ without-thinned i (t ∷ ts) d h = by-test (eqb i (t .id)) refl (without-thinned
         (λ u n. rw (ne-eqb i (u .id) n)) (absent-behind i t ts e d)))
     by-test false e r = rw r (sym (unless-empty-filled (t .id) (t .bodies) (thinned other ts) (h .0)))
 
+-- what a thinning leaves of the other ids
+pub without-of-thinned : (i : ℕ) (f : ℕ → List Body → List Body) (ts : List Template) → Differ ts
+    → without i (thinned f ts) ≡ thinned (λ j bs. cond (eqb i j) [] (f j bs)) ts
+without-of-thinned i f ts d =
+    without-thinned i (thinned f ts) (thinned-differ f ts d) (thinned-filled f ts)
+    ∙ thinned-twice f (λ j bs. cond (eqb i j) [] bs) (λ j. none-either-way (eqb i j)) ts
+
 -- the least recent of the templates that a thinning leaves goes too
 pub first-thinned : (f : ℕ → List Body → List Body) (ts : List Template) → Differ ts
     → drop 1 (thinned f ts) ≡ thinned (λ j bs. cond (eqb j (firstId (thinned f ts))) [] (f j bs)) ts
@@ -203,10 +214,6 @@ first-thinned f (t ∷ ts) d = by-list (f (t .id) (t .bodies)) refl (first-thinn
   where
     later : ℕ → ℕ → List Body → List Body
     later k j bs = cond (eqb j k) [] (f j bs)
-
-    none-either-way : (q : Bool) → _≡_ {A = List Body} (cond q [] []) []
-    none-either-way true = refl
-    none-either-way false = refl
 
     by-list : (bs : List Body) → f (t .id) (t .bodies) ≡ bs
         → drop 1 (thinned f ts) ≡ thinned (later (firstId (thinned f ts))) ts
