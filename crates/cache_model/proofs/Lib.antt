@@ -9,3 +9,7 @@ pub mod Calls
 pub mod Numbers
 pub mod Pruning
 pub mod Acceptance
+pub mod Thinning
+pub mod Drops
+pub mod Shrinking
+pub mod Plans
