@@ -19,7 +19,7 @@ use Rattle.table.proofs.Counted.{labelsOf, occurs-tally}
 use Rattle.table.proofs.Draws.{occurs}
 use Rattle.table_records.specs.Add.{inserted}
 use Rattle.cache_model.proofs.Lists.{all-last}
-use Rattle.table_view.proofs.Tied.{Tied, TiedApart}
+use Rattle.table_view.proofs.Tied.{Tied, TiedApart, or-second}
 
 -- ---- a record more
 
@@ -88,10 +88,6 @@ tally-append k (e ∷ es) fs = by-label (eqb k (e .label)) (tally-append k es fs
         cond x (suc (tally k (es ++ fs))) (tally k (es ++ fs)) ≡ cond x (suc (tally k es)) (tally k es) + tally k fs
     by-label true ih = omega arith
     by-label false ih = ih
-
-or-second : (s t : Bool) → t ≡ true → s || t ≡ true
-or-second true t h = refl
-or-second false t h = h
 
 module _ {a : ℕ} {rs : List TemplateRecord} {es : List Entry} {is : List ℕ} (h : TiedApart a rs es is) (e : Entry)
     (same : e .label ≡ a) where

@@ -83,9 +83,13 @@ pub none-above : (es : List Entry) → All (λ e. e .label < 1024) es → tally 
 none-above [] h = refl
 none-above (e ∷ es) h = tally-later 1024 e es (λ d. omega (arith, h .0)) ∙ none-above es (h .1)
 
-or-first : (s t : Bool) → s ≡ true → s || t ≡ true
+pub or-first : (s t : Bool) → s ≡ true → s || t ≡ true
 or-first true t h = refl
 or-first false t h = absurd (false≢true h)
+
+pub or-second : (s t : Bool) → t ≡ true → s || t ≡ true
+or-second true t h = refl
+or-second false t h = h
 
 or-other : (s t : Bool) → s || t ≡ true → (t ≡ true → ⊥) → s ≡ true
 or-other true t h no-t = refl
