@@ -1,0 +1,4 @@
+pub mod Tied
+pub mod Stored
+pub mod Added
+pub mod Removed
