@@ -1,0 +1,1 @@
+// Laws: the tables that sweeps, closings and additions leave, and the caches that they stand for.
