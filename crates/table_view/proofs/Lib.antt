@@ -1,2 +1,4 @@
 pub mod Thinned
 pub mod Closed
+pub mod Swept
+pub mod Summed
