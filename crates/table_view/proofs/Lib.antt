@@ -2,3 +2,5 @@ pub mod Thinned
 pub mod Closed
 pub mod Swept
 pub mod Summed
+pub mod Frames
+pub mod Appended

@@ -90,7 +90,8 @@ module _ (b : List ℕ) (q : StayTest) (k : ℕ) where
   pub label-count : (es : List Entry) → Within (length b) es →
       labelSum q false k es ≡ length (keep (bodyStays q k) (bodiesAt b k es))
   label-count es h =
-      label-weight (λ x. 1) false es h (all-map (λ e. e .place + e .len ≤ length b) (λ e. _≡_ {A = ℕ} 1 1) (λ e _. refl) es h)
+      label-weight (λ x. 1) false es h (all-map (λ e. e .place + e .len ≤ length b) (λ e. _≡_ {A = ℕ} 1 1) (λ e _. refl)
+      es h)
       ∙ count-bodies (keep (bodyStays q k) (bodiesAt b k es))
 
   pub label-bytes : (es : List Entry) → Within (length b) es →
