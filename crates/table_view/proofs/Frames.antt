@@ -1,14 +1,14 @@
--- What is read from bytes after a write elsewhere: below it, where it stands, and behind it. Assumes nothing.
+-- What is read from bytes after a write or a move: below it, where it stands, and behind it. Assumes nothing.
 use mathlib.Core.Path.{_≡_, refl, sym, ap, _∙_}
 use mathlib.Core.List.{List, [], _∷_, _++_}
 use Prim.Native.Nat.{ℕ, zero, suc, _+_, _-_, _≤_}
 use native.Mathlib.Omega.{arith}
-use lib.ListN.{length, take, drop, length-append, length-drop}
+use lib.ListN.{length, take, drop, length-append, length-take, length-drop}
 use lib.Seq.{length-take-le, take-take, drop-drop, take-at, drop-at, take-append-seam, drop-append-seam}
-use Rattle.areas.specs.Overwrite.{putAt}
+use Rattle.areas.specs.Overwrite.{putAt, moved}
 use Rattle.table.specs.declared.Entry.{Entry}
 use Rattle.table.proofs.Facts.{Placed}
-use Rattle.pending_flows.specs.View.{bodyAt, bodiesAt}
+use Rattle.pending_flows.specs.View.{bodiesAt}
 use Rattle.table_view.proofs.Swept.{Within}
 
 -- lists that agree below m, or from m on
@@ -65,6 +65,33 @@ module _ (at : ℕ) (ys xs : List ℕ) (room : at + length ys ≤ length xs) whe
 
   pub put-drop : (m : ℕ) → at + length ys ≤ m → drop m (putAt at ys xs) ≡ drop m xs
   put-drop m h = drop-further (at + length ys) (putAt at ys xs) xs m h put-above
+
+module _ (from to n : ℕ) (xs : List ℕ) (fits : from + n ≤ length xs) (down : to ≤ from) where
+  part-long : length (take n (drop from xs)) ≡ n
+  part-long = omega (arith, length-take n (drop from xs), length-drop from xs)
+
+  moved-puts : moved from to n xs ≡ putAt to (take n (drop from xs)) xs
+  unfolding moved putAt
+  moved-puts = rw part-long
+
+  part-room : to + length (take n (drop from xs)) ≤ length xs
+  part-room = omega (arith, part-long)
+
+  pub moved-long : length (moved from to n xs) ≡ length xs
+  moved-long = rw moved-puts (put-long to (take n (drop from xs)) xs part-room)
+
+  pub moved-below : take to (moved from to n xs) ≡ take to xs
+  moved-below = rw moved-puts (put-below to (take n (drop from xs)) xs part-room)
+
+  pub moved-there : take n (drop to (moved from to n xs)) ≡ take n (drop from xs)
+  moved-there =
+      let there = put-there to (take n (drop from xs)) xs part-room in
+      rw moved-puts (rw part-long at there)
+
+  pub moved-above : drop (to + n) (moved from to n xs) ≡ drop (to + n) xs
+  moved-above =
+      let above = put-above to (take n (drop from xs)) xs part-room in
+      rw moved-puts (rw part-long at above)
 
 -- the bodies of entries below a place, and from it on
 module _ (m : ℕ) (b b′ : List ℕ) where

@@ -4,3 +4,4 @@ pub mod Swept
 pub mod Summed
 pub mod Frames
 pub mod Appended
+pub mod Packed

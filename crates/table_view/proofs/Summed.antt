@@ -1,14 +1,14 @@
 -- The sums by label over the entries that stay by themselves, as sums over the bodies of the label. Assumes nothing.
 use mathlib.Core.Path.{_≡_, refl, sym, ap, _∙_}
-use mathlib.Core.Bool.{Bool, true, false, not, _&&_, _||_, cond}
+use mathlib.Core.Bool.{Bool, true, false, not, _&&_, cond}
 use mathlib.Core.List.{List, [], _∷_}
 use Prim.Native.Nat.{ℕ, _+_, _≤_, _<_, min}
 use native.Mathlib.Omega.{arith}
 use lib.Dec.{eqb, leb}
-use lib.ListN.{length, getD, set, replicate, length-set, length-replicate, getD-replicate}
+use lib.ListN.{length, getD, replicate, length-set, length-replicate, getD-replicate}
 use lib.Seq.{getD-set-same, getD-set-other}
 use borrow.Author.Tests.{eqb-true, eqb-false, le-leb}
-use Rattle.config.specs.declared.Ttl.the-variants.{None, After}
+use Rattle.config.specs.declared.Ttl.the-variants.{None}
 use Rattle.table.specs.declared.Entry.{Entry}
 use Rattle.table.proofs.Facts.{All, Placed, all-map}
 use Rattle.table_entries.specs.declared.StayTest.{StayTest}
