@@ -5,3 +5,4 @@ pub mod Summed
 pub mod Frames
 pub mod Appended
 pub mod Packed
+pub mod Totals
