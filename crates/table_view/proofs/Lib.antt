@@ -2,3 +2,10 @@ pub mod Tied
 pub mod Stored
 pub mod Added
 pub mod Removed
+pub mod Closed
+pub mod Swept
+pub mod Summed
+pub mod Frames
+pub mod Appended
+pub mod Packed
+pub mod Totals

@@ -1,0 +1,171 @@
+-- All bodies moved down, in their order, so that each begins where the one before it ends. Assumes nothing.
+use mathlib.Core.Path.{_≡_, refl, sym, ap, _∙_}
+use mathlib.Core.Bool.{Bool, true, false}
+use mathlib.Core.List.{List, [], _∷_, _++_}
+use Prim.Native.Nat.{ℕ, suc, _+_, _≤_}
+use native.Mathlib.Omega.{arith}
+use lib.Dec.{leb}
+use lib.ListN.{length, take, drop, length-append, length-take, length-drop, drop-of-length-le}
+use borrow.Author.Tests.{leb-true, leb-false}
+use Rattle.areas.specs.Overwrite.{moved}
+use Rattle.table.specs.declared.Entry.{Entry}
+use Rattle.table.specs.Table.{tally}
+use Rattle.table.proofs.Facts.{All, Placed}
+use Rattle.pending_flows.specs.View.{bodiesAt}
+use Rattle.table_view.proofs.Frames.{read-below, drop-further, moved-long, moved-below, moved-there}
+use Rattle.table_view.proofs.Frames.{moved-above, bodies-above}
+
+-- an entry whose body stands at a place
+abbrev pub placedAt : ℕ → Entry → Entry
+placedAt at e = record { label = e .label; place = at; len = e .len; clock = e .clock }
+
+-- the entries, the bytes, and the end of the last body, where the first body goes to `at`
+unfoldable pub packedEntries : ℕ → List Entry → List Entry
+packedEntries at [] = []
+packedEntries at (e ∷ es) = placedAt at e ∷ packedEntries (at + e .len) es
+
+unfoldable pub packedBytes : ℕ → List Entry → List ℕ → List ℕ
+packedBytes at [] b = b
+packedBytes at (e ∷ es) b = packedBytes (at + e .len) es (moved (e .place) at (e .len) b)
+
+unfoldable pub packedEnd : ℕ → List Entry → ℕ
+packedEnd at [] = at
+packedEnd at (e ∷ es) = packedEnd (at + e .len) es
+
+-- the lengths of all bodies
+unfoldable pub allLens : List Entry → ℕ
+allLens [] = 0
+allLens (e ∷ es) = e .len + allLens es
+
+pub packed-end : (at : ℕ) (es : List Entry) → packedEnd at es ≡ at + allLens es
+unfolding packedEnd allLens
+packed-end at [] = omega arith
+packed-end at (e ∷ es) = omega (arith, packed-end (at + e .len) es)
+
+pub packed-placed : (at : ℕ) (es : List Entry) → Placed at (packedEnd at es) (packedEntries at es)
+unfolding packedEnd packedEntries
+packed-placed at [] = tt
+packed-placed at (e ∷ es) =
+    (omega arith, omega (arith, packed-end (at + e .len) es), packed-placed (at + e .len) es)
+
+-- they end no later than before
+pub packed-most : (at from most : ℕ) (es : List Entry) → at ≤ from → at ≤ most → Placed from most es →
+    packedEnd at es ≤ most
+unfolding packedEnd
+packed-most at from most [] low room p = room
+packed-most at from most (e ∷ es) low room p =
+    packed-most (at + e .len) (e .place + e .len) most es (omega (arith, p .0)) (omega (arith, p .0, p .1)) (p .2)
+
+-- all but the places stays
+pub packed-count : (at : ℕ) (es : List Entry) → length (packedEntries at es) ≡ length es
+unfolding packedEntries
+packed-count at [] = refl
+packed-count at (e ∷ es) = ap suc (packed-count (at + e .len) es)
+
+pub packed-tally : (k at : ℕ) (es : List Entry) → tally k (packedEntries at es) ≡ tally k es
+unfolding packedEntries
+packed-tally k at [] = refl
+packed-tally k at (e ∷ es) = rw (packed-tally k (at + e .len) es)
+
+pub packed-all : (P : ℕ → ℕ → ℕ → Type 0) (at : ℕ) (es : List Entry) → All (λ e. P (e .label) (e .len) (e .clock)) es →
+    All (λ e. P (e .label) (e .len) (e .clock)) (packedEntries at es)
+unfolding packedEntries
+packed-all P at [] a = tt
+packed-all P at (e ∷ es) a = (a .0, packed-all P (at + e .len) es (a .1))
+
+-- the bytes after the move of one body: what is there for the bodies behind it
+module _ (at from : ℕ) (e : Entry) (es : List Entry) (b : List ℕ) (low : at ≤ from)
+    (p : Placed from (length b) (e ∷ es)) where
+  abbrev oneMoved : List ℕ
+  oneMoved = moved (e .place) at (e .len) b
+
+  rest-placed : Placed (e .place + e .len) (length oneMoved) es
+  rest-placed = rw (moved-long (e .place) at (e .len) b (p .1) (omega (arith, p .0))) (p .2)
+
+pub packed-long : (at from : ℕ) (es : List Entry) (b : List ℕ) → at ≤ from → Placed from (length b) es →
+    length (packedBytes at es b) ≡ length b
+unfolding packedBytes
+packed-long at from [] b low p = refl
+packed-long at from (e ∷ es) b low p =
+    packed-long (at + e .len) (e .place + e .len) es (oneMoved at from e es b low p) (omega (arith, p .0))
+    (rest-placed at from e es b low p)
+    ∙ moved-long (e .place) at (e .len) b (p .1) (omega (arith, p .0))
+
+pub packed-below : (at from : ℕ) (es : List Entry) (b : List ℕ) → at ≤ from → Placed from (length b) es →
+    take at (packedBytes at es b) ≡ take at b
+unfolding packedBytes
+packed-below at from [] b low p = refl
+packed-below at from (e ∷ es) b low p =
+    let b₁ = oneMoved at from e es b low p in
+    let ih : take (at + e .len) (packedBytes (at + e .len) es b₁) ≡ take (at + e .len) b₁ =
+    packed-below (at + e .len) (e .place + e .len) es b₁ (omega (arith, p .0)) (rest-placed at from e es b low p) in
+    read-below (at + e .len) (packedBytes (at + e .len) es b₁) b₁ 0 at (omega arith) ih
+    ∙ moved-below (e .place) at (e .len) b (p .1) (omega (arith, p .0))
+
+pub packed-bodies : (k at from : ℕ) (es : List Entry) (b : List ℕ) → at ≤ from → Placed from (length b) es →
+    bodiesAt (packedBytes at es b) k (packedEntries at es) ≡ bodiesAt b k es
+unfolding packedBytes packedEntries
+packed-bodies k at from [] b low p = refl
+packed-bodies k at from (e ∷ es) b low p =
+    let b₁ = oneMoved at from e es b low p in
+    let b₂ = packedBytes (at + e .len) es b₁ in
+    let down : at ≤ e .place = omega (arith, p .0) in
+    let rest = rest-placed at from e es b low p in
+    let below : take (at + e .len) b₂ ≡ take (at + e .len) b₁ =
+    packed-below (at + e .len) (e .place + e .len) es b₁ (omega arith) rest in
+    let here : take (e .len) (drop at b₂) ≡ take (e .len) (drop (e .place) b) =
+    read-below (at + e .len) b₂ b₁ at (e .len) (omega arith) below ∙ moved-there (e .place) at (e .len) b (p .1) down in
+    let behind : bodiesAt b₂ k (packedEntries (at + e .len) es) ≡ bodiesAt b k es =
+    packed-bodies k (at + e .len) (e .place + e .len) es b₁ (omega arith) rest
+    ∙ bodies-above (at + e .len) b₁ b k (e .place + e .len) (length b) es (omega arith) (p .2)
+    (moved-above (e .place) at (e .len) b (p .1) down) in
+    rw (here, behind)
+
+-- no byte changes from where the bodies ended before
+moved-short : (from to n : ℕ) (xs : List ℕ) → to ≤ from → length (moved from to n xs) ≤ length xs
+unfolding moved
+moved-short from to n xs down =
+    omega (
+      arith,
+      length-append (take to xs) (take n (drop from xs) ++ drop (to + n) xs),
+      length-append (take n (drop from xs)) (drop (to + n) xs),
+      length-take to xs,
+      length-take n (drop from xs),
+      length-drop from xs,
+      length-drop (to + n) xs,
+    )
+
+packed-short : (at from most : ℕ) (es : List Entry) (b : List ℕ) → at ≤ from → Placed from most es →
+    length (packedBytes at es b) ≤ length b
+unfolding packedBytes
+packed-short at from most [] b low p = omega arith
+packed-short at from most (e ∷ es) b low p =
+    let down : at ≤ e .place = omega (arith, p .0) in
+    omega (
+      arith,
+      packed-short (at + e .len) (e .place + e .len) most es (moved (e .place) at (e .len) b) (omega arith) (p .2),
+      moved-short (e .place) at (e .len) b down,
+    )
+
+drop-within : (at from most : ℕ) (es : List Entry) (b : List ℕ) → at ≤ from → most ≤ length b → Placed from most es →
+    drop most (packedBytes at es b) ≡ drop most b
+unfolding packedBytes
+drop-within at from most [] b low room p = refl
+drop-within at from most (e ∷ es) b low room p =
+    let b₁ = moved (e .place) at (e .len) b in
+    let down : at ≤ e .place = omega (arith, p .0) in
+    let ends : e .place + e .len ≤ length b = omega (arith, p .1) in
+    drop-within (at + e .len) (e .place + e .len) most es b₁ (omega arith)
+    (omega (arith, moved-long (e .place) at (e .len) b ends down)) (p .2)
+    ∙ drop-further (at + e .len) b₁ b most (omega (arith, p .1)) (moved-above (e .place) at (e .len) b ends down)
+
+pub packed-drop : (at from most : ℕ) (es : List Entry) (b : List ℕ) → at ≤ from → Placed from most es →
+    drop most (packedBytes at es b) ≡ drop most b
+packed-drop at from most es b low p = by-room (leb most (length b)) refl
+  where
+    by-room : (x : Bool) → leb most (length b) ≡ x → drop most (packedBytes at es b) ≡ drop most b
+    by-room true t = drop-within at from most es b low (leb-true most (length b) t) p
+    by-room false t =
+        let short = leb-false most (length b) t in
+        drop-of-length-le (packedBytes at es b) {i = most} (omega (arith, packed-short at from most es b low p))
+        ∙ sym (drop-of-length-le b {i = most} (omega arith))
