@@ -1,0 +1,3 @@
+pub mod StayTests
+pub mod SumsPasses
+pub mod Ends
