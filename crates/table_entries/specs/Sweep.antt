@@ -1,7 +1,7 @@
 -- The sweep: entries go, the others close up in their order.
 use mathlib.Core.Path.{_≡_}
 use mathlib.Core.List.{List, [], _∷_}
-use mathlib.Core.Bool.{cond}
+use mathlib.Core.Bool.{Bool, cond}
 use Prim.Native.Nat.{ℕ, _+_, _*_, _≤_}
 use lib.Dec.{ltb}
 use lib.ListN.{getD, set, take, drop}
@@ -20,6 +20,11 @@ swept q skip (e ∷ es) =
     cond (stays q e)
     (cond (ltb 0 (getD skip (e .label) 0)) (swept q (lessAt skip (e .label)) es) (e ∷ swept q skip es))
     (swept q skip es)
+
+-- r: whether there is one of a label to skip; if so, it is taken off
+pub record Spends (label : ℕ) (skip skip′ : List ℕ) (r : Bool) : Type 0 where
+  pub test : r ≡ ltb 0 (getD skip label 0)
+  pub after : skip′ ≡ lessAt skip label
 
 -- the words with an entry's four words from p on
 unfoldable pub putEntry : List ℕ → ℕ → Entry → List ℕ
