@@ -3,3 +3,7 @@ pub mod SumsPasses
 pub mod Ends
 pub mod Frames
 pub mod SweepPass
+pub mod LabelSums
+pub mod Swept
+pub mod Lengths
+pub mod Packed
