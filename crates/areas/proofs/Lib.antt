@@ -1,1 +1,3 @@
 pub mod Copies
+pub mod Moves
+pub mod Puts
