@@ -1,0 +1,69 @@
+-- The lengths of entries, and how far their bodies reach. Assumes nothing.
+use mathlib.Core.Path.{_≡_, refl}
+use mathlib.Core.Bool.{true, false, _&&_}
+use mathlib.Core.List.{List, [], _∷_}
+use Prim.Native.Nat.{ℕ, _+_, _≤_, _<_}
+use native.Mathlib.Omega.{arith}
+use lib.Dec.{eqb}
+use borrow.Author.Tests.{eqb-true, ne-eqb}
+use Rattle.table.specs.declared.Entry.{Entry}
+use Rattle.table.specs.Table.{tally}
+use Rattle.table.specs.Passes.{heldLen}
+use Rattle.table.proofs.Tests.{and-right}
+use Rattle.table.proofs.Facts.{All, Placed}
+use Rattle.table.proofs.Labels.{tally-here}
+use Rattle.table_entries.specs.declared.StayTest.{StayTest}
+use Rattle.table_entries.specs.Stays.{stays}
+use Rattle.table_entries.specs.Sums.{labelSum, heldSum}
+use Rattle.table_entries.specs.Pack.{lastEnd}
+use Rattle.table_entries.proofs.LabelSums.{by-case}
+
+-- the lengths of all entries
+unfoldable pub lensSum : List Entry → ℕ
+lensSum [] = 0
+lensSum (e ∷ es) = e .len + lensSum es
+
+-- where no entry has a label, all are held
+pub held-all : (out : ℕ) (es : List Entry) → All (λ e. e .label < out) es → heldSum out es ≡ lensSum es
+unfolding heldSum heldLen lensSum
+held-all out [] a = refl
+held-all out (e ∷ es) a =
+    rw (ne-eqb (e .label) out (λ d. omega (arith, a .0))) (omega (arith, held-all out es (a .1)))
+
+-- of a label no more entries stay than there are
+tally-more : (k : ℕ) (e : Entry) (es : List Entry) → tally k es ≤ tally k (e ∷ es)
+tally-more k e es =
+    by-case (λ (n : ℕ). tally k es ≤ n) (eqb k (e .label)) (λ _. omega arith) (λ _. omega arith)
+
+pub label-count-within : (q : StayTest) (k : ℕ) (es : List Entry) → labelSum q false k es ≤ tally k es
+unfolding labelSum
+label-count-within q k [] = omega arith
+label-count-within q k (e ∷ es) =
+    by-case (λ (n : ℕ). n + labelSum q false k es ≤ tally k (e ∷ es)) (stays q e && eqb k (e .label))
+    (λ t. omega (
+      arith,
+      tally-here k e es (eqb-true k (e .label) (and-right (stays q e) (eqb k (e .label)) t)),
+      label-count-within q k es,
+    ))
+    (λ _. omega (arith, tally-more k e es, label-count-within q k es))
+
+-- and those that stay are no longer than all
+pub label-bytes-within : (q : StayTest) (k : ℕ) (es : List Entry) → labelSum q true k es ≤ lensSum es
+unfolding labelSum lensSum
+label-bytes-within q k [] = omega arith
+label-bytes-within q k (e ∷ es) =
+    by-case (λ (n : ℕ). n + labelSum q true k es ≤ e .len + lensSum es) (stays q e && eqb k (e .label))
+    (λ _. omega (arith, label-bytes-within q k es)) (λ _. omega (arith, label-bytes-within q k es))
+
+-- bodies that do not overlap are no longer than their room
+pub lens-within : (from most : ℕ) (es : List Entry) → from ≤ most → Placed from most es → from + lensSum es ≤ most
+unfolding lensSum
+lens-within from most [] h p = omega arith
+lens-within from most (e ∷ es) h p = omega (arith, p .0, lens-within (e .place + e .len) most es (p .1) (p .2))
+
+pub first-end-within : (from most : ℕ) (e : Entry) (es : List Entry) → Placed from most (e ∷ es) →
+    e .place + e .len ≤ lastEnd (e ∷ es)
+unfolding lastEnd
+first-end-within from most e [] p = omega arith
+first-end-within from most e (x ∷ es) p =
+    omega (arith, p .2 .0, first-end-within (e .place + e .len) most x es (p .2))

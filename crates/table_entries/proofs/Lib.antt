@@ -1,0 +1,9 @@
+pub mod StayTests
+pub mod SumsPasses
+pub mod Ends
+pub mod Frames
+pub mod SweepPass
+pub mod LabelSums
+pub mod Swept
+pub mod Lengths
+pub mod Packed

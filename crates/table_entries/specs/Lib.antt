@@ -1,0 +1,4 @@
+pub mod Stays
+pub mod Sums
+pub mod Sweep
+pub mod Pack

@@ -1,0 +1,23 @@
+// Passes over the entries of a table: sums by label, the sweep, and packing (docs/LAYOUT.md).
+mod pack;
+mod stay;
+mod sums;
+mod sweeps;
+
+use config::Ttl;
+pub use pack::last_end;
+pub use stay::stays;
+pub use sums::held_bytes;
+pub use sums::sums_by_label;
+pub use sweeps::put_entry;
+pub use sweeps::sweep;
+
+// Which bodies stay, each by itself: one that is expired goes, where its label or every label is aged, and one that is
+// too large.
+pub struct StayTest {
+    pub ttl: Ttl,
+    pub clock: u64,
+    pub all: bool,
+    pub label: u64,
+    pub max_size: u64,
+}
