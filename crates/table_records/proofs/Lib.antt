@@ -1,0 +1,5 @@
+pub mod PastEnd
+pub mod Frames
+pub mod ClosesRecords
+pub mod ClosesIndex
+pub mod Closes
