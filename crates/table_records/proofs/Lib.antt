@@ -3,3 +3,4 @@ pub mod Frames
 pub mod ClosesRecords
 pub mod ClosesIndex
 pub mod Closes
+pub mod Chosen
