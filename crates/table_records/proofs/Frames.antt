@@ -78,6 +78,26 @@ index-same w w′ p (suc k) f =
       index-same w w′ (p + recordWords) k (λ i q a b. f (i + 1) q (omega arith) (omega arith)),
     )
 
+pub index-shifted : (w w′ : List ℕ) (p p′ k : ℕ) →
+    ((i : ℕ) → i < k → word w (p + recordWords * i + 3) ≡ word w′ (p′ + recordWords * i + 3)) →
+    indexFrom w p k ≡ indexFrom w′ p′ k
+unfolding indexFrom
+index-shifted w w′ p p′ zero f = refl
+index-shifted w w′ p p′ (suc k) f = rw (here, index-shifted w w′ (p + recordWords) (p′ + recordWords) k later)
+  where
+    here : word w (p + 3) ≡ word w′ (p′ + 3)
+    here =
+        let e : p + recordWords * 0 + 3 ≡ p + 3 = omega arith in
+        let e′ : p′ + recordWords * 0 + 3 ≡ p′ + 3 = omega arith in
+        ap (word w) (sym e) ∙ f 0 (omega arith) ∙ ap (word w′) e′
+
+    later : (i : ℕ) → i < k →
+        word w (p + recordWords + recordWords * i + 3) ≡ word w′ (p′ + recordWords + recordWords * i + 3)
+    later i h =
+        let e : p + recordWords * (i + 1) + 3 ≡ p + recordWords + recordWords * i + 3 = omega arith in
+        let e′ : p′ + recordWords * (i + 1) + 3 ≡ p′ + recordWords + recordWords * i + 3 = omega arith in
+        ap (word w) (sym e) ∙ f (i + 1) (omega arith) ∙ ap (word w′) e′
+
 -- some, and then more
 pub records-add : (w : List ℕ) (p a b : ℕ) →
     recordsFrom w p (a + b) ≡ recordsFrom w p a ++ recordsFrom w (p + recordWords * a) b

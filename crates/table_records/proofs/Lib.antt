@@ -4,3 +4,6 @@ pub mod ClosesRecords
 pub mod ClosesIndex
 pub mod Closes
 pub mod Chosen
+pub mod Inserted
+pub mod OpensIndex
+pub mod Adds
