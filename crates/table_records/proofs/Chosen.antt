@@ -1,0 +1,200 @@
+-- The passes that choose by the records: what is chosen is chosen from what is left. Assumes nothing.
+use mathlib.Core.Path.{_≡_, refl, sym, ap, _∙_}
+use mathlib.Core.Bool.{cond}
+use mathlib.Core.List.{List}
+use Prim.Native.Nat.{ℕ, suc, _+_, _*_, _-_, _≤_, _<_}
+use native.Mathlib.Omega.{arith}
+use lib.ListN.{length, getD, set}
+use borrow.Author.Tests.{eq-eqb, ne-eqb, lt-ltb, le-ltb}
+use Rattle.config.specs.Limits.{recordWords}
+use Rattle.table.specs.declared.TemplateRecord.{TemplateRecord}
+use Rattle.table.specs.Table.{recordAt, recordsFrom}
+use Rattle.table.proofs.Words.{records-first, records-none}
+use Rattle.table_records.specs.Choose.{skipAll, skipping, skippingOver, evictionsOf, liveRecords, firstLive}
+use Rattle.table_records.specs.Choose.{freeLabel}
+
+-- `left` records are left, from word p on, within the words
+pub record Skipped (w skip₀ skip : List ℕ) (from records p left : ℕ) : Type 0 where
+  pub within : p + recordWords * left ≤ length w
+  pub same : skipping skip (recordsFrom w p left) ≡ skipping skip₀ (recordsFrom w from records)
+
+pub none-skipped : (w skip : List ℕ) (from records : ℕ) → from + recordWords * records ≤ length w →
+    Skipped w skip skip from records from records
+none-skipped w skip from records h = record { within = h; same = refl }
+
+module _ {w skip₀ skip : List ℕ} {from records p left : ℕ} (inv : Skipped w skip₀ skip from records p left) where
+  pub all-skipped : left ≤ 0 → skip ≡ skipping skip₀ (recordsFrom w from records)
+  unfolding skipping
+  all-skipped h = rw (records-none w p left h) at (inv .same)
+
+  pub record-skipped : (r : TemplateRecord) (skip′ : List ℕ) → 0 < left → r ≡ recordAt w p →
+      skip′ ≡ set skip (r .label) skipAll → Skipped w skip₀ skip′ from records (p + recordWords) (left - 1)
+  unfolding skipping
+  record-skipped r skip′ more is stored = record {
+    within = omega (arith, inv .within);
+    same = rw stored (rw (records-first w p left more r is) at (inv .same));
+  }
+
+pub record OverSkipped (w : List ℕ) (cap : ℕ) (counts skip₀ skip : List ℕ) (from records p left : ℕ) : Type 0 where
+  pub within : p + recordWords * left ≤ length w
+  pub same : skippingOver cap counts skip (recordsFrom w p left)
+      ≡ skippingOver cap counts skip₀ (recordsFrom w from records)
+
+pub none-over : (w : List ℕ) (cap : ℕ) (counts skip : List ℕ) (from records : ℕ) →
+    from + recordWords * records ≤ length w → OverSkipped w cap counts skip skip from records from records
+none-over w cap counts skip from records h = record { within = h; same = refl }
+
+module _ {w : List ℕ} {cap : ℕ} {counts skip₀ skip : List ℕ} {from records p left : ℕ}
+    (inv : OverSkipped w cap counts skip₀ skip from records p left) where
+  pub all-over : left ≤ 0 → skip ≡ skippingOver cap counts skip₀ (recordsFrom w from records)
+  unfolding skippingOver
+  all-over h = rw (records-none w p left h) at (inv .same)
+
+  pub record-over : (r : TemplateRecord) (count over : ℕ) (skip′ : List ℕ) → 0 < left → r ≡ recordAt w p →
+      count ≡ getD counts (r .label) 0 → over ≡ count - cap → skip′ ≡ set skip (r .label) over →
+      OverSkipped w cap counts skip₀ skip′ from records (p + recordWords) (left - 1)
+  unfolding skippingOver
+  record-over r count over skip′ more is counted less stored = record {
+    within = omega (arith, inv .within);
+    same = rw (stored, less, counted) (rw (records-first w p left more r is) at (inv .same));
+  }
+
+-- so many go, and then those of the ones that are left
+pub record Evicted (w : List ℕ) (room : ℕ) (sizes : List ℕ) (total from records evicted held p left : ℕ) : Type 0
+  where
+    pub within : p + recordWords * left ≤ length w
+    pub few : evicted + left ≤ records
+    pub rest : evictionsOf room sizes total (recordsFrom w from records)
+        ≡ evicted + evictionsOf room sizes held (recordsFrom w p left)
+
+pub none-evicted : (w : List ℕ) (room : ℕ) (sizes : List ℕ) (total from records : ℕ) →
+    from + recordWords * records ≤ length w → Evicted w room sizes total from records 0 total from records
+none-evicted w room sizes total from records h = record { within = h; few = omega arith; rest = omega arith }
+
+module _ {w : List ℕ} {room : ℕ} {sizes : List ℕ} {total from records evicted held p left : ℕ}
+    (inv : Evicted w room sizes total from records evicted held p left) where
+  pub all-evicted : left ≤ 0 → evicted ≡ evictionsOf room sizes total (recordsFrom w from records)
+  unfolding evictionsOf
+  all-evicted h =
+      let z : evictionsOf room sizes held (recordsFrom w p left) ≡ 0 = rw (records-none w p left h) in
+      omega (arith, inv .rest)
+
+  pub room-made : 0 < left → held ≤ room → evicted ≡ evictionsOf room sizes total (recordsFrom w from records)
+  unfolding evictionsOf
+  room-made more h =
+      let z : evictionsOf room sizes held (recordsFrom w p left) ≡ 0 =
+      rw (records-first w p left more (recordAt w p) refl, le-ltb room held h) in
+      omega (arith, inv .rest)
+
+  pub record-evicted : (r : TemplateRecord) (size held′ : ℕ) → 0 < left → room < held → r ≡ recordAt w p →
+      size ≡ getD sizes (r .label) 0 → held′ ≡ held - size →
+      Evicted w room sizes total from records (evicted + 1) held′ (p + recordWords) (left - 1)
+  unfolding evictionsOf
+  record-evicted r size held′ more h is sized less =
+      let next : evictionsOf room sizes held (recordsFrom w p left)
+      ≡ suc (evictionsOf room sizes held′ (recordsFrom w (p + recordWords) (left - 1))) =
+      rw (records-first w p left more r is, lt-ltb room held h, less, sized) in
+      record {
+        within = omega (arith, inv .within);
+        few = omega (arith, inv .few);
+        rest = omega (arith, inv .rest);
+      }
+
+-- those counted, and then those among the ones that are left
+pub record RecordsCounted (w live : List ℕ) (from records counted p left : ℕ) : Type 0 where
+  pub within : p + recordWords * left ≤ length w
+  pub few : counted + left ≤ records
+  pub rest : liveRecords live (recordsFrom w from records) ≡ counted + liveRecords live (recordsFrom w p left)
+
+pub no-record-counted : (w live : List ℕ) (from records : ℕ) → from + recordWords * records ≤ length w →
+    RecordsCounted w live from records 0 from records
+no-record-counted w live from records h = record { within = h; few = omega arith; rest = omega arith }
+
+module _ {w live : List ℕ} {from records counted p left : ℕ}
+    (inv : RecordsCounted w live from records counted p left) where
+  pub all-records-counted : left ≤ 0 → counted ≡ liveRecords live (recordsFrom w from records)
+  unfolding liveRecords
+  all-records-counted h =
+      let z : liveRecords live (recordsFrom w p left) ≡ 0 = rw (records-none w p left h) in
+      omega (arith, inv .rest)
+
+  module _ (r : TemplateRecord) (n : ℕ) (more : 0 < left) (is : r ≡ recordAt w p) (has : n ≡ getD live (r .label) 0)
+    where
+      pub record-counted : 0 < n → RecordsCounted w live from records (counted + 1) (p + recordWords) (left - 1)
+      unfolding liveRecords
+      record-counted h =
+          let next : liveRecords live (recordsFrom w p left)
+          ≡ 1 + liveRecords live (recordsFrom w (p + recordWords) (left - 1)) =
+          rw (records-first w p left more r is, ← has, lt-ltb 0 n h) in
+          record {
+            within = omega (arith, inv .within);
+            few = omega (arith, inv .few);
+            rest = omega (arith, inv .rest);
+          }
+
+      pub record-passed-over : n ≤ 0 → RecordsCounted w live from records counted (p + recordWords) (left - 1)
+      unfolding liveRecords
+      record-passed-over h =
+          let next : liveRecords live (recordsFrom w p left)
+          ≡ 0 + liveRecords live (recordsFrom w (p + recordWords) (left - 1)) =
+          rw (records-first w p left more r is, ← has, le-ltb 0 n h) in
+          record {
+            within = omega (arith, inv .within);
+            few = omega (arith, inv .few);
+            rest = omega (arith, inv .rest);
+          }
+
+-- none of the records passed has live bodies
+pub record LiveSought (w live : List ℕ) (from records p left : ℕ) : Type 0 where
+  pub within : p + recordWords * left ≤ length w
+  pub same : firstLive live (recordsFrom w from records) ≡ firstLive live (recordsFrom w p left)
+
+pub all-sought : (w live : List ℕ) (from records : ℕ) → from + recordWords * records ≤ length w →
+    LiveSought w live from records from records
+all-sought w live from records h = record { within = h; same = refl }
+
+module _ {w live : List ℕ} {from records p left : ℕ} (inv : LiveSought w live from records p left) where
+  pub none-live : left ≤ 0 → 1024 ≡ firstLive live (recordsFrom w from records)
+  unfolding firstLive
+  none-live h = sym (inv .same ∙ ap (firstLive live) (records-none w p left h))
+
+  module _ (r : TemplateRecord) (n : ℕ) (more : 0 < left) (is : r ≡ recordAt w p) (has : n ≡ getD live (r .label) 0)
+    where
+      pub live-found : 0 < n → r .label ≡ firstLive live (recordsFrom w from records)
+      unfolding firstLive
+      live-found h = sym (inv .same ∙ rw (records-first w p left more r is, ← has, lt-ltb 0 n h))
+
+      pub live-further : n ≤ 0 → LiveSought w live from records (p + recordWords) (left - 1)
+      unfolding firstLive
+      live-further h = record {
+        within = omega (arith, inv .within);
+        same = inv .same ∙ rw (records-first w p left more r is, ← has, le-ltb 0 n h);
+      }
+
+-- the labels before `label` have bodies
+pub record LabelSought (kept : List ℕ) (labels label left : ℕ) : Type 0 where
+  pub reached : label + left ≡ labels
+  pub same : freeLabel kept 0 labels ≡ freeLabel kept label left
+
+pub all-labels : (kept : List ℕ) (labels : ℕ) → LabelSought kept labels 0 labels
+all-labels kept labels = record { reached = omega arith; same = refl }
+
+module _ {kept : List ℕ} {labels label left : ℕ} (inv : LabelSought kept labels label left) where
+  pub no-free-label : left ≤ 0 → label ≡ freeLabel kept 0 labels
+  unfolding freeLabel
+  no-free-label h = let z : left ≡ 0 = omega arith in sym (inv .same ∙ ap (freeLabel kept label) z)
+
+  module _ (n : ℕ) (more : 0 < left) (has : n ≡ getD kept label 0) where
+    one-more : left ≡ suc (left - 1)
+    one-more = omega arith
+
+    pub label-free : n ≡ 0 → label ≡ freeLabel kept 0 labels
+    unfolding freeLabel
+    label-free h = sym (inv .same ∙ ap (freeLabel kept label) one-more ∙ rw (← has, eq-eqb n 0 h))
+
+    pub label-taken : (n ≡ 0 → ⊥) → LabelSought kept labels (label + 1) (left - 1)
+    unfolding freeLabel
+    label-taken h = record {
+      reached = omega (arith, inv .reached);
+      same = inv .same ∙ ap (freeLabel kept label) one-more ∙ rw (← has, ne-eqb n 0 h);
+    }

@@ -1,0 +1,9 @@
+pub mod PastEnd
+pub mod Frames
+pub mod ClosesRecords
+pub mod ClosesIndex
+pub mod Closes
+pub mod Chosen
+pub mod Inserted
+pub mod OpensIndex
+pub mod Adds

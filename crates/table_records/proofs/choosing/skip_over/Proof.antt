@@ -1,0 +1,65 @@
+use borrow.Author.Needs.{needs}
+use Rattle.table_records.proofs.Chosen.{OverSkipped, none-over, record-over, all-over}
+use Rattle.table_records.proofs.choosing.skip_over.Statement.{statement}
+use Rattle.table_records.proofs.choosing.skip_over.Tie as tie
+
+abbrev Inv-loop : tie.InvT-loop
+Inv-loop words from records cap counts skip₀ left₀ p₀ skip left p = OverSkipped words cap counts skip₀ skip from records p left
+
+abbrev μ-loop : tie.MeasureT-loop
+μ-loop words from records cap counts skip₀ left₀ p₀ skip left p = left
+
+loop-holds : tie.Need-loop-holds Inv-loop μ-loop
+loop-holds c = search (none-over, needs)
+
+record-at-requires : tie.Need-record-at-requires Inv-loop μ-loop
+record-at-requires c κs = search needs
+
+sum-of-requires : tie.Need-sum-of-requires Inv-loop μ-loop
+sum-of-requires c κs = search needs
+
+cast-beyond : tie.Need-cast-beyond Inv-loop μ-loop
+cast-beyond c = search needs
+
+beyond-requires : tie.Need-beyond-requires Inv-loop μ-loop
+beyond-requires c κs = search needs
+
+cast-set-sum : tie.Need-cast-set-sum Inv-loop μ-loop
+cast-set-sum c = search needs
+
+set-sum-requires : tie.Need-set-sum-requires Inv-loop μ-loop
+set-sum-requires c κs = search needs
+
+sub-left : tie.Need-sub-left Inv-loop μ-loop
+sub-left c = search needs
+
+add-p : tie.Need-add-p Inv-loop μ-loop
+add-p c = search needs
+
+loop-less : tie.Need-loop-less Inv-loop μ-loop
+loop-less c = search needs
+
+loop-again : tie.Need-loop-again Inv-loop μ-loop
+loop-again c = search (record-over, needs)
+
+returns : tie.Need-returns Inv-loop μ-loop
+returns c = search (all-over, needs)
+
+pub skip-over-spec : {M : Type 1} → statement M
+skip-over-spec =
+    tie.close
+    (tie.spec
+    Inv-loop
+    μ-loop
+    loop-holds
+    record-at-requires
+    sum-of-requires
+    cast-beyond
+    beyond-requires
+    cast-set-sum
+    set-sum-requires
+    sub-left
+    add-p
+    loop-less
+    loop-again
+    returns)

@@ -1,0 +1,49 @@
+use borrow.Author.Needs.{needs}
+use Rattle.table_records.proofs.Chosen.{Skipped, none-skipped, record-skipped, all-skipped}
+use Rattle.table_records.proofs.choosing.skip_records.Statement.{statement}
+use Rattle.table_records.proofs.choosing.skip_records.Tie as tie
+
+abbrev Inv-loop : tie.InvT-loop
+Inv-loop words from records skip₀ left₀ p₀ skip left p = Skipped words skip₀ skip from records p left
+
+abbrev μ-loop : tie.MeasureT-loop
+μ-loop words from records skip₀ left₀ p₀ skip left p = left
+
+loop-holds : tie.Need-loop-holds Inv-loop μ-loop
+loop-holds c = search (none-skipped, needs)
+
+record-at-requires : tie.Need-record-at-requires Inv-loop μ-loop
+record-at-requires c κs = search needs
+
+set-sum-requires : tie.Need-set-sum-requires Inv-loop μ-loop
+set-sum-requires c κs = search needs
+
+sub-left : tie.Need-sub-left Inv-loop μ-loop
+sub-left c = search needs
+
+add-p : tie.Need-add-p Inv-loop μ-loop
+add-p c = search needs
+
+loop-less : tie.Need-loop-less Inv-loop μ-loop
+loop-less c = search needs
+
+loop-again : tie.Need-loop-again Inv-loop μ-loop
+loop-again c = search (record-skipped, needs)
+
+returns : tie.Need-returns Inv-loop μ-loop
+returns c = search (all-skipped, needs)
+
+pub skip-records-spec : {M : Type 1} → statement M
+skip-records-spec =
+    tie.close
+    (tie.spec
+    Inv-loop
+    μ-loop
+    loop-holds
+    record-at-requires
+    set-sum-requires
+    sub-left
+    add-p
+    loop-less
+    loop-again
+    returns)

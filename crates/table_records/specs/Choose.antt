@@ -1,0 +1,42 @@
+-- What is chosen by looking at the records alone, with sums by label beside them. Nothing is written.
+use mathlib.Core.List.{List, [], _∷_}
+use mathlib.Core.Bool.{Bool, cond}
+use Prim.Native.Nat.{ℕ, zero, suc, _+_, _-_}
+use lib.Dec.{eqb, ltb}
+use lib.ListN.{getD, set}
+use Rattle.table.specs.declared.TemplateRecord.{TemplateRecord}
+
+-- more than any template has
+abbrev pub skipAll : ℕ
+skipAll = 262144
+
+-- all bodies of these records are to be skipped
+unfoldable pub skipping : List ℕ → List TemplateRecord → List ℕ
+skipping skip [] = skip
+skipping skip (r ∷ rs) = skipping (set skip (r .label) skipAll) rs
+
+-- of each of these records, the bodies beyond a cap, where `counts` says how many there are
+unfoldable pub skippingOver : ℕ → List ℕ → List ℕ → List TemplateRecord → List ℕ
+skippingOver cap counts skip [] = skip
+skippingOver cap counts skip (r ∷ rs) =
+    skippingOver cap counts (set skip (r .label) (getD counts (r .label) 0 - cap)) rs
+
+-- how many least recent templates go until the total is at most `room`, where `sizes` has the bytes of each label
+unfoldable pub evictionsOf : ℕ → List ℕ → ℕ → List TemplateRecord → ℕ
+evictionsOf room sizes total [] = 0
+evictionsOf room sizes total (r ∷ rs) =
+    cond (ltb room total) (suc (evictionsOf room sizes (total - getD sizes (r .label) 0) rs)) 0
+
+-- how many of these records have live bodies, and the label of the first one; where there is none, what is no label
+unfoldable pub liveRecords : List ℕ → List TemplateRecord → ℕ
+liveRecords live [] = 0
+liveRecords live (r ∷ rs) = cond (ltb 0 (getD live (r .label) 0)) 1 0 + liveRecords live rs
+
+unfoldable pub firstLive : List ℕ → List TemplateRecord → ℕ
+firstLive live [] = 1024
+firstLive live (r ∷ rs) = cond (ltb 0 (getD live (r .label) 0)) (r .label) (firstLive live rs)
+
+-- the least label, from k on, that has no bodies; n labels are looked at
+unfoldable pub freeLabel : List ℕ → ℕ → ℕ → ℕ
+freeLabel kept k zero = k
+freeLabel kept k (suc n) = cond (eqb (getD kept k 0) 0) k (freeLabel kept (k + 1) n)

@@ -1,0 +1,4 @@
+pub mod Close
+pub mod Add
+pub mod Choose
+pub mod Passes
