@@ -20,7 +20,7 @@ pub record Untouched (words bytes : ℕ) (a a′ : Areas) : Type 0 where
   pub words-long : length (a′ .words) ≡ length (a .words)
   pub bytes-long : length (a′ .bytes) ≡ length (a .bytes)
 
--- nothing is touched past the words and bytes that the configured limits need
+-- Nothing is touched past the words and bytes that the configured limits need
 abbrev pub UntouchedPast : PendingFlowsConfig → Areas → Areas → Type 0
 UntouchedPast l a a′ = Untouched (wordsNeeded l) (l .«max_total_bytes») a a′
 

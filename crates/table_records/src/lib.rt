@@ -12,3 +12,5 @@ pub use choosing::live_records;
 pub use choosing::skip_over;
 pub use choosing::skip_records;
 pub use closing::close;
+pub use sums::set_sum;
+pub use sums::sum_of;

@@ -1,0 +1,65 @@
+// Removing bodies, once it is decided which.
+ghost use mathlib.Core.Path.{_≡_};
+ghost use Prim.Native.Nat.{_+_, _*_, _≤_};
+ghost use lib.ListN.{length};
+ghost use Rattle.config.specs.Limits.{recordWords, entryWords};
+ghost use Rattle.table.specs.Layout.{entriesAt};
+ghost use Rattle.pending_calls.specs.Removal.{everything, Removes};
+use config::Ttl;
+use table::LABELS;
+use table_entries::StayTest;
+use table_entries::sums_by_label;
+use table_entries::sweep;
+use table_records::close;
+use table_records::set_sum;
+use table_records::sum_of;
+
+// What a removal leaves: entries, records, and the bodies of the label that was set apart.
+pub struct Removed {
+    pub entries: usize,
+    pub records: usize,
+    pub apart: u32,
+}
+
+// The test by which every body stays.
+pub fn stay_all() -> StayTest
+    ensures { λ r. ⌜ r ≡ everything ⌝ }
+{
+    StayTest {
+        ttl: Ttl::None,
+        clock: 0,
+        all: false,
+        label: LABELS as u64,
+        max_size: 18446744073709551615,
+    }
+}
+
+// Sweeps the entries and closes the records; the record of the label `apart` goes though its bodies stay. Each label's
+// bodies that are left are added to `kept`, but those set apart.
+pub fn remove(
+    words: &mut [u64],
+    from: usize,
+    records: usize,
+    entries: usize,
+    test: StayTest,
+    skip: &mut [u32; LABELS],
+    apart: u64,
+    kept: &mut [u32; LABELS],
+) -> Removed
+    requires { ⌜ (entriesAt + entryWords * entries ≤ from) × (from + recordWords * records ≤ length (now words)) ⌝ }
+    requires { ⌜ (records ≤ 1024) × ((length (now skip) ≡ 1024) × (length (now kept) ≡ 1024)) ⌝ }
+    ensures { λ r.
+        ⌜ Removes test from records entries apart (now (skip .entry)) (now (kept .entry)) (now (words .entry))
+        (now (words .exit)) (now (kept .exit)) r ⌝ }
+{
+    let left = sweep(words, entries, test, skip);
+    sums_by_label(words, left, stay_all(), false, kept);
+    let bodies = sum_of(kept, apart);
+    set_sum(kept, apart, 0);
+    let remain = close(words, from, records, kept);
+    Removed {
+        entries: left,
+        records: remain,
+        apart: bodies,
+    }
+}
