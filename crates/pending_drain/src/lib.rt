@@ -1,0 +1,7 @@
+// Draining a pending flow cache, and putting back (pending_flows.rs).
+mod draining;
+mod restoring;
+
+pub use draining::DrainAnswer;
+pub use restoring::PutBackAnswer;
+pub use restoring::PutBackRefusal;

@@ -1,0 +1,5 @@
+// Offering a body to a pending flow cache (pending_flows.rs).
+mod offering;
+
+pub use offering::OfferAnswer;
+pub use offering::OfferRefusal;
