@@ -6,6 +6,7 @@ mod sweeps;
 
 use config::Ttl;
 pub use pack::last_end;
+pub use pack::pack_bodies;
 pub use stay::stays;
 pub use sums::held_bytes;
 pub use sums::sums_by_label;
