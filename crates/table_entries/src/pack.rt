@@ -13,6 +13,9 @@ use config::ENTRY_WORDS;
 use config::HEADER_WORDS;
 use table::entry_at;
 
+// The word of an entry that is its body's place.
+const PLACE: usize = 1;
+
 // Where the last entry's body ends; 0 where there is none.
 pub fn last_end(words: &[u64], entries: usize) -> u64
     requires { ⌜ (entriesAt + entryWords * entries ≤ length (now words)) × (lastEnd (entriesFrom (now words)
@@ -25,9 +28,6 @@ pub fn last_end(words: &[u64], entries: usize) -> u64
     let last = entry_at(words, HEADER_WORDS + ENTRY_WORDS * (entries - 1));
     last.place + last.len
 }
-
-// The word of an entry that is its body's place.
-const PLACE: usize = 1;
 
 // Moves the bodies together towards the front, in table order; answers where the last one ends.
 pub fn pack_bodies(words: &mut [u64], bytes: &mut [u8], entries: usize) -> usize
