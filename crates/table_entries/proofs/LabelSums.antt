@@ -1,5 +1,5 @@
 -- The sums by label as plain sums: each is its label's, up to the largest 32-bit number. Assumes nothing.
-use mathlib.Core.Path.{_≡_, refl, sym, ap, _∙_}
+use mathlib.Core.Path.{_≡_, refl, ap, _∙_}
 use mathlib.Core.Bool.{Bool, true, false, cond}
 use mathlib.Core.List.{List, [], _∷_}
 use Prim.Native.Nat.{ℕ, _+_, _≤_, _<_, min}
@@ -12,12 +12,7 @@ use Rattle.table.specs.declared.Entry.{Entry}
 use Rattle.table_entries.specs.declared.StayTest.{StayTest}
 use Rattle.table_entries.specs.Stays.{stays}
 use Rattle.table_entries.specs.Sums.{sumMost, moreAt, share, summed, labelSum}
-
--- a choice has what both its sides have
-pub by-case : {A : Type 0} (P : A → Type 0) (t : Bool) {x y : A} → (t ≡ true → P x) → (t ≡ false → P y) →
-    P (cond t x y)
-by-case P true f g = f refl
-by-case P false f g = g refl
+use Rattle.table_entries.proofs.Choices.{by-case}
 
 -- no label has a sum yet
 abbrev pub noSums : List ℕ
@@ -54,8 +49,9 @@ module _ (q : StayTest) (bytes : Bool) where
   unfolding summed labelSum
   summed-from sums [] k h most = omega arith
   summed-from sums (e ∷ es) k h most =
-      by-case (λ (l : List ℕ). getD (summed q bytes l es) k 0 ≡ min (getD sums k 0 + labelSum q bytes k (e ∷ es)) sumMost)
-      (stays q e) (λ s. adds s (ℕ-discrete k (e .label)) (summed-from (moreAt sums (e .label) (share bytes e)) es k))
+      let total = min (getD sums k 0 + labelSum q bytes k (e ∷ es)) sumMost in
+      by-case (λ (l : List ℕ). getD (summed q bytes l es) k 0 ≡ total) (stays q e)
+      (λ s. adds s (ℕ-discrete k (e .label)) (summed-from (moreAt sums (e .label) (share bytes e)) es k))
       (λ s. omega (arith, summed-from sums es k h most, label-sum-gone k e es s))
     where
       next : List ℕ

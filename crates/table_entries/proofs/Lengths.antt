@@ -16,7 +16,7 @@ use Rattle.table_entries.specs.declared.StayTest.{StayTest}
 use Rattle.table_entries.specs.Stays.{stays}
 use Rattle.table_entries.specs.Sums.{labelSum, heldSum}
 use Rattle.table_entries.specs.Pack.{lastEnd}
-use Rattle.table_entries.proofs.LabelSums.{by-case}
+use Rattle.table_entries.proofs.Choices.{by-case}
 
 -- the lengths of all entries
 unfoldable pub lensSum : List Entry → ℕ
@@ -54,6 +54,17 @@ label-bytes-within q k [] = omega arith
 label-bytes-within q k (e ∷ es) =
     by-case (λ (n : ℕ). n + labelSum q true k es ≤ e .len + lensSum es) (stays q e && eqb k (e .label))
     (λ _. omega (arith, label-bytes-within q k es)) (λ _. omega (arith, label-bytes-within q k es))
+
+-- bodies that begin above one place begin above a lower one
+pub placed-lower : (from from′ most : ℕ) (es : List Entry) → from ≤ from′ → Placed from′ most es → Placed from most es
+placed-lower from from′ most [] h p = tt
+placed-lower from from′ most (e ∷ es) h p = (omega (arith, p .0), p .1, p .2)
+
+-- and bodies that end within one room end within a larger one
+pub placed-wider : (from most most′ : ℕ) (es : List Entry) → most ≤ most′ → Placed from most es → Placed from most′ es
+placed-wider from most most′ [] h p = tt
+placed-wider from most most′ (e ∷ es) h p =
+    (p .0, omega (arith, p .1), placed-wider (e .place + e .len) most most′ es h (p .2))
 
 -- bodies that do not overlap are no longer than their room
 pub lens-within : (from most : ℕ) (es : List Entry) → from ≤ most → Placed from most es → from + lensSum es ≤ most

@@ -1,9 +1,12 @@
+pub mod Choices
 pub mod StayTests
 pub mod SumsPasses
-pub mod Ends
+pub mod LabelSums
+pub mod Lengths
 pub mod Frames
 pub mod SweepPass
-pub mod LabelSums
 pub mod Swept
-pub mod Lengths
+pub mod Ends
 pub mod Packed
+pub mod PackPass
+pub mod PackedBodies

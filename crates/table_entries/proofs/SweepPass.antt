@@ -1,12 +1,12 @@
 -- The sweep, turn by turn: what is kept, and then what the sweep keeps of what is left. Assumes nothing.
 use mathlib.Core.Path.{_≡_, refl, sym, ap, _∙_}
 use mathlib.Core.Bool.{Bool, true, false, cond}
-use mathlib.Core.List.{List, [], _∷_, _++_, append-assoc, append-nil}
+use mathlib.Core.List.{List, _∷_, _++_, append-assoc, append-nil}
 use Prim.Native.Nat.{ℕ, _+_, _*_, _-_, _≤_, _<_}
 use native.Mathlib.Omega.{arith}
 use lib.Dec.{ltb}
 use lib.ListN.{length, getD, set, take, drop, length-set, List·getD-eq-default}
-use lib.Seq.{set-out, set-getD}
+use lib.Seq.{set-getD}
 use borrow.Author.Tests.{lt-ltb, ltb-false}
 use Rattle.config.specs.Limits.{entryWords}
 use Rattle.table.specs.declared.Entry.{Entry}

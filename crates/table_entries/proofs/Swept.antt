@@ -1,6 +1,6 @@
 -- What the sweep keeps: entries of the list, in their order, and of each label all that stay but those to skip.
 -- Assumes nothing.
-use mathlib.Core.Path.{_≡_, refl, sym, ap, _∙_}
+use mathlib.Core.Path.{_≡_, ap, _∙_}
 use mathlib.Core.Bool.{true, false}
 use mathlib.Core.List.{List, [], _∷_}
 use Prim.Native.Nat.{ℕ, suc, _+_, _-_, _≤_, _<_}
@@ -19,7 +19,9 @@ use Rattle.table_entries.specs.declared.StayTest.{StayTest}
 use Rattle.table_entries.specs.Stays.{stays}
 use Rattle.table_entries.specs.Sums.{labelSum}
 use Rattle.table_entries.specs.Sweep.{swept}
-use Rattle.table_entries.proofs.LabelSums.{by-case, label-sum-here, label-sum-other, label-sum-gone}
+use Rattle.table_entries.proofs.Choices.{by-case}
+use Rattle.table_entries.proofs.LabelSums.{label-sum-here, label-sum-other, label-sum-gone}
+use Rattle.table_entries.proofs.Lengths.{placed-lower}
 
 -- what holds of the sweep of a first entry and others: it goes, is skipped, or is kept
 swept-cases : (P : List Entry → Type 0) (q : StayTest) (skip : List ℕ) (e : Entry) (es : List Entry) →
@@ -47,11 +49,6 @@ all-swept P q skip [] a = tt
 all-swept P q skip (e ∷ es) a =
     swept-cases (λ l. All P l) q skip e es (λ _. all-swept P q skip es (a .1))
     (λ _ _. all-swept P q (lessAt skip (e .label)) es (a .1)) (λ _ _. (a .0, all-swept P q skip es (a .1)))
-
--- bodies that begin above one place begin above a lower one
-pub placed-lower : (from from′ most : ℕ) (es : List Entry) → from ≤ from′ → Placed from′ most es → Placed from most es
-placed-lower from from′ most [] h p = tt
-placed-lower from from′ most (e ∷ es) h p = (omega (arith, p .0), p .1, p .2)
 
 pub placed-swept : (q : StayTest) (skip : List ℕ) (from most : ℕ) (es : List Entry) → Placed from most es →
     Placed from most (swept q skip es)

@@ -1,7 +1,13 @@
 -- Bodies moved together towards the front of the byte area, in table order.
+use mathlib.Core.Path.{_≡_}
 use mathlib.Core.List.{List, [], _∷_}
-use Prim.Native.Nat.{ℕ, _+_}
+use Prim.Native.Nat.{ℕ, _+_, _*_}
+use lib.ListN.{take, drop}
+use Rattle.areas.specs.Overwrite.{moved}
+use Rattle.config.specs.Limits.{entryWords}
 use Rattle.table.specs.declared.Entry.{Entry}
+use Rattle.table.specs.Layout.{entriesAt}
+use Rattle.table.specs.Table.{entriesFrom}
 
 -- the end of the last entry's body; 0 where there is none
 unfoldable pub lastEnd : List Entry → ℕ
@@ -19,3 +25,16 @@ packedEntries at (e ∷ es) =
 unfoldable pub packedEnd : ℕ → List Entry → ℕ
 packedEnd at [] = at
 packedEnd at (e ∷ es) = packedEnd (at + e .len) es
+
+-- the bytes, each body moved to its new place
+unfoldable pub packedBytes : ℕ → List Entry → List ℕ → List ℕ
+packedBytes at [] bs = bs
+packedBytes at (e ∷ es) bs = packedBytes (at + e .len) es (moved (e .place) at (e .len) bs)
+
+-- the first m entries and their bodies are packed, up to r; no other word changes
+pub record Packs (m : ℕ) (w b w′ b′ : List ℕ) (r : ℕ) : Type 0 where
+  pub entries : entriesFrom w′ entriesAt m ≡ packedEntries 0 (entriesFrom w entriesAt m)
+  pub bytes : b′ ≡ packedBytes 0 (entriesFrom w entriesAt m) b
+  pub end : r ≡ packedEnd 0 (entriesFrom w entriesAt m)
+  pub head : take entriesAt w′ ≡ take entriesAt w
+  pub tail : drop (entriesAt + entryWords * m) w′ ≡ drop (entriesAt + entryWords * m) w

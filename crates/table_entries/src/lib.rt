@@ -6,7 +6,7 @@ mod sweeps;
 
 use config::Ttl;
 pub use pack::last_end;
-pub use stay::stays;
+pub use pack::pack_bodies;
 pub use sums::held_bytes;
 pub use sums::sums_by_label;
 pub use sweeps::put_entry;

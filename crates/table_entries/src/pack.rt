@@ -1,14 +1,20 @@
 // Where bodies end, and moving them together.
 ghost use mathlib.Core.Path.{_≡_};
+ghost use mathlib.Core.Bool.{true};
 ghost use Prim.Native.Nat.{_+_, _*_, _≤_};
 ghost use lib.ListN.{length};
 ghost use Rattle.config.specs.Limits.{entryWords};
 ghost use Rattle.table.specs.Layout.{entriesAt};
 ghost use Rattle.table.specs.Table.{entriesFrom};
-ghost use Rattle.table_entries.specs.Pack.{lastEnd};
+ghost use Rattle.table.specs.WellFormed.{placesLegal};
+ghost use Rattle.table_entries.specs.Pack.{lastEnd, Packs};
+use areas::move_bytes;
 use config::ENTRY_WORDS;
 use config::HEADER_WORDS;
 use table::entry_at;
+
+// The word of an entry that is its body's place.
+const PLACE: usize = 1;
 
 // Where the last entry's body ends; 0 where there is none.
 pub fn last_end(words: &[u64], entries: usize) -> u64
@@ -21,4 +27,26 @@ pub fn last_end(words: &[u64], entries: usize) -> u64
     }
     let last = entry_at(words, HEADER_WORDS + ENTRY_WORDS * (entries - 1));
     last.place + last.len
+}
+
+// Moves the bodies together towards the front, in table order; answers where the last one ends.
+pub fn pack_bodies(words: &mut [u64], bytes: &mut [u8], entries: usize) -> usize
+    requires { ⌜ (entriesAt + entryWords * entries ≤ length (now words)) × (placesLegal 0 (length (now bytes))
+        (entriesFrom (now words) entriesAt entries) ≡ true) ⌝ }
+    ensures { λ r.
+        ⌜ Packs entries (now (words .entry)) (now (bytes .entry)) (now (words .exit)) (now (bytes .exit)) r ⌝ }
+{
+    let mut at: usize = 0;
+    let mut left = entries;
+    let mut p = HEADER_WORDS;
+    while left > 0 {
+        let entry = entry_at(words, p);
+        let len = entry.len as usize;
+        move_bytes(bytes, entry.place as usize, at, len);
+        words[p + PLACE] = at as u64;
+        at += len;
+        left -= 1;
+        p += ENTRY_WORDS;
+    }
+    at
 }

@@ -1,0 +1,75 @@
+use borrow.Author.Needs.{needs}
+use Rattle.table_entries.proofs.PackPass.{EntriesPacked, none-packed, all-packed-up, entry-packed}
+use Rattle.table_entries.proofs.PackPass.{source-within, target-within, end-fits}
+use Rattle.table_entries.proofs.pack.pack_bodies.Statement.{statement}
+use Rattle.table_entries.proofs.pack.pack_bodies.Tie as tie
+
+abbrev Inv-loop : tie.InvT-loop
+Inv-loop words₀ bytes₀ entries at₀ left₀ p₀ words bytes at left p =
+    EntriesPacked entries words₀ bytes₀ words bytes at left p
+
+abbrev μ-loop : tie.MeasureT-loop
+μ-loop words₀ bytes₀ entries at₀ left₀ p₀ words bytes at left p = left
+
+loop-holds : tie.Need-loop-holds Inv-loop μ-loop
+loop-holds c = search (none-packed, needs)
+
+entry-at-requires : tie.Need-entry-at-requires Inv-loop μ-loop
+entry-at-requires c κs = search needs
+
+move-bytes-requires : tie.Need-move-bytes-requires Inv-loop μ-loop
+move-bytes-requires c κs = search (source-within, target-within, needs)
+
+add-words : tie.Need-add-words Inv-loop μ-loop
+add-words c = search needs
+
+mul-words : tie.Need-mul-words Inv-loop μ-loop
+mul-words c = search needs
+
+slice-write-words : tie.Need-slice-write-words Inv-loop μ-loop
+slice-write-words c = search needs
+
+add-at : tie.Need-add-at Inv-loop μ-loop
+add-at c = record { fits = search (end-fits, needs) }
+
+sub-left : tie.Need-sub-left Inv-loop μ-loop
+sub-left c = search needs
+
+add-p : tie.Need-add-p Inv-loop μ-loop
+add-p c = search needs
+
+loop-less : tie.Need-loop-less Inv-loop μ-loop
+loop-less c = search needs
+
+loop-again : tie.Need-loop-again Inv-loop μ-loop
+loop-again c = search (entry-packed, needs)
+
+same-length : tie.Need-same-length Inv-loop μ-loop
+same-length c = search needs
+
+same-length-2 : tie.Need-same-length-2 Inv-loop μ-loop
+same-length-2 c = search needs
+
+returns : tie.Need-returns Inv-loop μ-loop
+returns c = search (all-packed-up, needs)
+
+pub pack-bodies-spec : {M : Type 1} → statement M
+pack-bodies-spec =
+    tie.close
+    (tie.spec
+    Inv-loop
+    μ-loop
+    loop-holds
+    entry-at-requires
+    move-bytes-requires
+    add-words
+    mul-words
+    slice-write-words
+    add-at
+    sub-left
+    add-p
+    loop-less
+    loop-again
+    same-length
+    same-length-2
+    returns)
