@@ -5,7 +5,8 @@ use Rattle.table_records.proofs.closing.close_index.Statement.{statemen
 use Rattle.table_records.proofs.closing.close_index.Tie as tie
 
 abbrev Inv-loop : tie.InvT-loop
-Inv-loop words₀ from records positions remain₀ left₀ p₀ words remain left p = Remapping from records positions words₀ words remain left p
+Inv-loop words₀ from records positions remain₀ left₀ p₀ words remain left p =
+    Remapping from records positions words₀ words remain left p
 
 abbrev μ-loop : tie.MeasureT-loop
 μ-loop words₀ from records positions remain₀ left₀ p₀ words remain left p = left
