@@ -16,7 +16,7 @@ use Rattle.config.specs.Limits.{refusalNumber, answerNumber, configNumber}
 use Rattle.table.specs.Table.{tableOf}
 use Rattle.table.specs.WellFormed.{wellFormed}
 use Rattle.cache_model.specs.Cache.{Cache}
-use Rattle.cache_model.specs.Calls.{shrunk, resizedTo, resized}
+use Rattle.cache_model.specs.Calls.{resized}
 use Rattle.pending_flows.specs.View.{areasOf, cacheOf, view}
 use Rattle.pending_calls.proofs.Performed.{damaged-performs, view-some, untouched-all}
 use Rattle.pending_resize.specs.declared.resizing.ResizeAnswer.{ResizeAnswer}
@@ -49,10 +49,6 @@ isRefused Resize.Damaged = 0
 dropped-refused : {k : ℕ} {n : ConfigRefusal} → Resize.Dropped k ≡ Resize.Refused n → ⊥
 unfolding isRefused
 dropped-refused e = let z : _≡_ {A = ℕ} 0 1 = ap isRefused e in omega arith
-
-damaged-refused : {n : ConfigRefusal} → Resize.Damaged ≡ Resize.Refused n → ⊥
-unfolding isRefused
-damaged-refused e = let z : _≡_ {A = ℕ} 0 1 = ap isRefused e in omega arith
 
 module _ (l : PendingFlowsConfig) (w b : List ℕ) {v : Bool} (tested : v ≡ wellFormed w (length b)) where
   pub resize-damaged : not v ≡ true → Resizes l (areasOf w b) Resize.Damaged (areasOf w b)

@@ -1,11 +1,11 @@
 -- What is chosen by labels and records is what the model chooses by ids and templates. Assumes nothing.
-use mathlib.Core.Path.{_≡_, refl, sym, ap, _∙_}
+use mathlib.Core.Path.{_≡_, refl, sym}
 use mathlib.Core.Logic.{_≢_}
-use mathlib.Core.Bool.{Bool, true, false, not, _&&_, _||_, cond}
+use mathlib.Core.Bool.{Bool, true, false, not, _&&_}
 use mathlib.Core.List.{List, [], _∷_, _++_}
 use Prim.Native.Nat.{ℕ, zero, suc, _+_, _-_}
 use native.Mathlib.Omega.{arith}
-use lib.Dec.{eqb, leb, ltb}
+use lib.Dec.{eqb, leb}
 use lib.ListN.{getD, take}
 use borrow.Author.Tests.{eq-eqb, ne-eqb}
 use Rattle.config.specs.declared.PendingFlowsConfig.{PendingFlowsConfig}
@@ -15,11 +15,11 @@ use Rattle.table.specs.Table.{hasLabel}
 use Rattle.table.proofs.Facts.{All, all-map, all-both, Differ}
 use Rattle.table.proofs.Labels.{absent-holds}
 use Rattle.table_records.specs.Choose.{evictionsOf}
-use Rattle.cache_model.specs.Bodies.{Body, Template, size, sumBodies, sumTemplates, byteTotal, keep}
+use Rattle.cache_model.specs.Bodies.{Body, size, sumBodies, byteTotal, keep}
 use Rattle.cache_model.specs.Removal.{evictions}
 use Rattle.cache_model.proofs.Parts as Parts
 use Rattle.cache_model.proofs.Thinning.{hasId}
-use Rattle.pending_flows.specs.View.{bodiesAt, templateAt, templatesAt}
+use Rattle.pending_flows.specs.View.{bodiesAt, templatesAt}
 use Rattle.table_view.proofs.Tied.{or-second}
 use Rattle.table_view.proofs.Swept.{bodyStays}
 use Rattle.pending_resize.specs.Cut.{smallEnough}

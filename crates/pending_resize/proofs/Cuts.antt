@@ -4,7 +4,6 @@ use mathlib.Core.Bool.{Bool, true, false, cond}
 use mathlib.Core.List.{List, [], _++_, append-nil}
 use Prim.Native.Nat.{ℕ, _+_, _*_, _-_, _≤_, _<_}
 use native.Mathlib.Omega.{arith}
-use lib.Dec.{leb}
 use lib.ListN.{length, getD, take, drop, length-replicate, length-drop, drop-of-length-le}
 use Rattle.config.specs.declared.PendingFlowsConfig.{PendingFlowsConfig}
 use Rattle.config.specs.Limits.{recordWords}
@@ -13,7 +12,7 @@ use Rattle.table.specs.declared.TemplateRecord.{TemplateRecord}
 use Rattle.table.specs.Layout.{entriesAt}
 use Rattle.table.specs.Table.{entriesFrom, recordsFrom, hasLabel}
 use Rattle.table.proofs.Words.{length-entries}
-use Rattle.table.proofs.Facts.{All, all-map, all-both, Differ}
+use Rattle.table.proofs.Facts.{All, all-both, Differ}
 use Rattle.table_entries.specs.declared.StayTest.{StayTest}
 use Rattle.table_entries.specs.Sums.{summed}
 use Rattle.table_entries.specs.Sweep.{swept}
@@ -22,9 +21,9 @@ use Rattle.table_records.specs.Close.{closed}
 use Rattle.table_records.specs.Choose.{skipAll, skipping, skippingOver}
 use Rattle.table_records.proofs.Frames.{records-add}
 use Rattle.table_records.proofs.Skips.{length-skipping, length-skipping-over, skipping-at, skipping-over-at}
-use Rattle.cache_model.specs.Bodies.{Body, Template, size, keep}
+use Rattle.cache_model.specs.Bodies.{Body, Template, keep}
 use Rattle.cache_model.specs.Calls.{cut}
-use Rattle.cache_model.proofs.Thinning.{thinned, hasId}
+use Rattle.cache_model.proofs.Thinning.{hasId}
 use Rattle.cache_model.proofs.Shrinking.{cutBodies, cut-thinned}
 use Rattle.pending_flows.specs.View.{bodiesAt, templatesAt}
 use Rattle.pending_flows.proofs.Templates.{length-templates}
@@ -32,7 +31,7 @@ use Rattle.pending_calls.specs.declared.removal.Removed.{Removed}
 use Rattle.table_view.proofs.Swept.{bodyStays, Within, placed-within}
 use Rattle.table_view.proofs.Summed.{label-count, label-count-most, summed-count}
 use Rattle.table_view.proofs.Closed.{closed-append, closed-none}
-use Rattle.pending_resize.specs.Removing.{zeros, countsOf, RemovesSkipped}
+use Rattle.pending_resize.specs.Removing.{zeros, countsOf}
 use Rattle.pending_resize.specs.Cut.{smallEnough, cutSkips, Cuts}
 use Rattle.pending_resize.proofs.Steps.{cut-skips-long}
 use Rattle.pending_resize.proofs.Rows.{Rows, rows-left, count-left, templates-left}

@@ -1,39 +1,36 @@
 -- What is left of rows where they fit the new total: the last templates, and bodies that end within it.
 -- Assumes nothing.
-use mathlib.Core.Path.{_≡_, refl, sym, ap, _∙_}
+use mathlib.Core.Path.{_≡_, refl, ap, _∙_}
 use mathlib.Core.Logic.{_≢_}
 use mathlib.Core.Bool.{Bool, true, false, cond}
 use mathlib.Core.List.{List, [], _∷_}
-use Prim.Native.Nat.{ℕ, suc, _+_, _*_, _≤_, _<_}
+use Prim.Native.Nat.{ℕ, suc, _≤_, _<_}
 use native.Mathlib.Omega.{arith}
-use lib.Dec.{eqb, leb}
+use lib.Dec.{eqb}
 use lib.ListN.{length, getD, take, drop, length-replicate, getD-replicate, drop-of-length-le}
-use borrow.Author.Tests.{leb-true, leb-false}
 use Rattle.table.specs.declared.Entry.{Entry}
 use Rattle.table.specs.declared.TemplateRecord.{TemplateRecord}
 use Rattle.table.specs.Layout.{entriesAt}
-use Rattle.table.specs.Table.{entriesFrom, recordsFrom, indexFrom, hasLabel, tally, sumLens}
+use Rattle.table.specs.Table.{entriesFrom, recordsFrom, hasLabel, tally, sumLens}
 use Rattle.table.proofs.Words.{length-entries}
-use Rattle.table.proofs.Facts.{All, all-map, all-both, Placed}
+use Rattle.table.proofs.Facts.{All, all-map, all-both}
 use Rattle.table_entries.specs.Sums.{summed, heldSum}
-use Rattle.table_entries.specs.Sweep.{swept}
 use Rattle.table_entries.proofs.Lengths.{placed-wider}
 use Rattle.table_records.specs.Choose.{skipAll}
 use Rattle.table_records.proofs.Skips.{skipping-at}
-use Rattle.cache_model.specs.Bodies.{Body, Template, size, sumBodies, sumTemplates, byteTotal, keep}
+use Rattle.cache_model.specs.Bodies.{Body, Template, size, sumBodies, byteTotal, keep}
 use Rattle.cache_model.specs.Removal.{evictions}
 use Rattle.cache_model.proofs.Thinning.{thinned, hasId}
 use Rattle.pending_flows.specs.View.{bodiesAt, templatesAt}
 use Rattle.pending_flows.proofs.Templates.{length-bodies}
 use Rattle.pending_calls.specs.declared.removal.Removed.{Removed}
 use Rattle.pending_calls.specs.Removal.{everything}
-use Rattle.table_view.proofs.Tied.{entries-small}
 use Rattle.table_view.proofs.Removed.{placed-short}
 use Rattle.table_view.proofs.Swept.{bodyStays, Within, placed-within}
 use Rattle.table_view.proofs.Summed.{zeros-label, label-bytes, label-bytes-most, everything-stays}
 use Rattle.table_view.proofs.Totals.{held-sum-lens, held-sum-total}
-use Rattle.pending_resize.specs.Removing.{zeros, countsOf}
-use Rattle.pending_resize.specs.Fit.{overTotal, totalSkips, FitsTotal, fittedEntries, fittedBytes, FitsPlaces}
+use Rattle.pending_resize.specs.Removing.{zeros}
+use Rattle.pending_resize.specs.Fit.{overTotal, totalSkips, FitsTotal}
 use Rattle.pending_resize.proofs.Steps.{total-skips-long}
 use Rattle.pending_resize.proofs.Rows.{Rows, rows-left, templates-left}
 use Rattle.pending_resize.proofs.Chosen.{first-alike, evictions-alike}

@@ -1,32 +1,30 @@
 -- What a resize leaves of a well-formed cache, step by step, before the header is written. Assumes nothing.
-use mathlib.Core.Path.{_≡_, refl, sym, ap, _∙_, subst}
+use mathlib.Core.Path.{_≡_, refl, sym, ap, _∙_}
 use mathlib.Core.Bool.{true}
-use mathlib.Core.List.{List, [], _++_, append-nil}
-use Prim.Native.Nat.{ℕ, _+_, _*_, _-_, _≤_, _<_, max}
+use mathlib.Core.List.{List, [], append-nil}
+use Prim.Native.Nat.{ℕ, _+_, _*_, _-_, _≤_, max}
 use native.Mathlib.Omega.{arith}
-use lib.ListN.{length, take, drop, take-append-drop}
+use lib.ListN.{length, drop, take-append-drop}
 use Rattle.areas.specs.Overwrite.{moved}
 use Rattle.config.specs.declared.PendingFlowsConfig.{PendingFlowsConfig}
 use Rattle.config.specs.Limits.{recordWords, entryWords, maxBodies, wordsNeeded, configNumber}
 use Rattle.config.proofs.Limits as Config
-use Rattle.table.specs.declared.Entry.{Entry}
-use Rattle.table.specs.declared.TemplateRecord.{TemplateRecord}
-use Rattle.table.specs.Layout.{limitsOf, heldCount, entryCount, chanceCount, entriesAt, recordsAt}
+use Rattle.table.specs.Layout.{limitsOf, heldCount, chanceCount, entriesAt, recordsAt}
 use Rattle.table.specs.Table.{Table, tableOf, entriesFrom, recordsFrom, indexFrom, records, index, sumLens}
-use Rattle.table.specs.WellFormed.{wellFormed, placesLegal, tableLegal}
+use Rattle.table.specs.WellFormed.{wellFormed, placesLegal}
 use Rattle.table.proofs.Words.{length-records, length-entries}
-use Rattle.table.proofs.Facts.{Placed, places-hold, LegalTable, table-holds, LegalWords, words-say}
+use Rattle.table.proofs.Facts.{places-hold, LegalTable, table-holds, LegalWords, words-say}
 use Rattle.table_entries.specs.Sums.{heldSum}
 use Rattle.table_entries.proofs.Lengths.{placed-wider}
 use Rattle.table_records.proofs.Frames.{drop-more}
-use Rattle.cache_model.specs.Bodies.{Template, byteTotal}
+use Rattle.cache_model.specs.Bodies.{Template}
 use Rattle.cache_model.specs.Cache.{Cache}
-use Rattle.cache_model.specs.Calls.{cut, shrunk, resizedTo}
+use Rattle.cache_model.specs.Calls.{cut, shrunk}
 use Rattle.cache_model.proofs.Limits.{Within}
 use Rattle.cache_model.proofs.Calls.{Limited, limitsAlone, held-within}
 use Rattle.cache_model.proofs.Resizes.{shrunk-within}
 use Rattle.cache_model.proofs.Shrinking.{shrunk-thinned}
-use Rattle.pending_flows.specs.View.{areasOf, templatesAt, cacheOf}
+use Rattle.pending_flows.specs.View.{templatesAt, cacheOf}
 use Rattle.pending_flows.specs.declared.header.HeaderFigures.{HeaderFigures}
 use Rattle.pending_flows.specs.Header.{figuresAt}
 use Rattle.pending_flows.proofs.Questions.{first-records}
@@ -35,7 +33,7 @@ use Rattle.table_view.proofs.Tied.{Tied, words-tied}
 use Rattle.table_view.proofs.Stored.{limits-legal, legal-limited, tied-legal}
 use Rattle.pending_resize.specs.Cut.{Cuts}
 use Rattle.pending_resize.specs.Fit.{FitsTotal, FitsPlaces}
-use Rattle.pending_resize.specs.Shrink.{tableLeft, Shrinks}
+use Rattle.pending_resize.specs.Shrink.{Shrinks}
 use Rattle.pending_resize.proofs.Rows.{Rows, rows-small}
 use Rattle.pending_resize.proofs.Cuts.{cut-rows, cut-templates}
 use Rattle.pending_resize.proofs.Fits.{rows-bytes, underTotal, fit-rows, fit-templates}
@@ -98,14 +96,14 @@ module _ (l : PendingFlowsConfig) (w b : List ℕ) (p : ℕ) (f : HeaderFigures)
       (chanceCount w))))
 
   module _ {w₁ : List ℕ} {few : Removed} (c : Cuts l p (f .templates) (f .chance) (f .entries) w w₁ few) where
-    rows₁ : Rows p (few .records) (few .entries) most w₁
-    rows₁ = cut-rows l p (f .templates) (f .chance) (f .entries) most w b start lent (new .some-entries) c
+    rows-cut : Rows p (few .records) (few .entries) most w₁
+    rows-cut = cut-rows l p (f .templates) (f .chance) (f .entries) most w b start lent (new .some-entries) c
 
-    abbrev ts₁ : List Template
-    ts₁ = templatesAt b (entriesFrom w₁ entriesAt (few .entries)) (recordsFrom w₁ p (few .records))
+    abbrev afterCut : List Template
+    afterCut = templatesAt b (entriesFrom w₁ entriesAt (few .entries)) (recordsFrom w₁ p (few .records))
 
-    templates₁ : ts₁ ≡ cut l (cache .held) .held
-    templates₁ =
+    templates-cut : afterCut ≡ cut l (cache .held) .held
+    templates-cut =
         cut-templates l p (f .templates) (f .chance) (f .entries) most w b start lent (new .some-entries) c
         ∙ ap (λ (ts : List Template). cut l ts .held) held-are
 
@@ -113,32 +111,32 @@ module _ (l : PendingFlowsConfig) (w b : List ℕ) (p : ℕ) (f : HeaderFigures)
         × ((few .records ≤ 1024) × (heldSum 1024 (entriesFrom w₁ entriesAt (few .entries)) ≤ 18446744073709551615))
     total-fits = (
       (omega (arith, cut-fits .0, c .few-entries), omega (arith, cut-fits .0, c .few-records, c .long)),
-      (rows₁ .records-few, rows-small rows₁),
+      (rows-cut .records-few, rows-small rows-cut),
     )
 
     module _ {w₂ : List ℕ} {left : Removed}
         (t : FitsTotal (l .«max_total_bytes») p (few .records) (few .entries) w₁ w₂ left) where
-      rows₂ : Rows p (left .records) (left .entries) most w₂
-      rows₂ = fit-rows rows₁ b lent (l .«max_total_bytes») t
+      rows-fit : Rows p (left .records) (left .entries) most w₂
+      rows-fit = fit-rows rows-cut b lent (l .«max_total_bytes») t
 
-      abbrev ts₂ : List Template
-      ts₂ = templatesAt b (entriesFrom w₂ entriesAt (left .entries)) (recordsFrom w₂ p (left .records))
+      abbrev afterFit : List Template
+      afterFit = templatesAt b (entriesFrom w₂ entriesAt (left .entries)) (recordsFrom w₂ p (left .records))
 
-      templates₂ : ts₂ ≡ shrunk l (cache .held) .held
-      templates₂ =
-          fit-templates rows₁ b lent (l .«max_total_bytes») t ∙ ap (underTotal (l .«max_total_bytes»)) templates₁
+      templates-fit : afterFit ≡ shrunk l (cache .held) .held
+      templates-fit =
+          fit-templates rows-cut b lent (l .«max_total_bytes») t ∙ ap (underTotal (l .«max_total_bytes»)) templates-cut
           ∙ sym (shrunk-thinned l (cache .held) (held-within cache limited .differ) (new .some-entries))
 
       -- what is left is within the new limits
-      within : Within l limitsAlone [] ts₂
-      within = rw templates₂ (shrunk-within l (cache .held) (limits-legal new) (held-within cache limited))
+      within : Within l limitsAlone [] afterFit
+      within = rw templates-fit (shrunk-within l (cache .held) (limits-legal new) (held-within cache limited))
 
       pub places-fit : (entriesAt + entryWords * left .entries ≤ length w₂)
           × (placesLegal 0 (length b) (entriesFrom w₂ entriesAt (left .entries)) ≡ true)
       places-fit =
           let es = entriesFrom w₂ entriesAt (left .entries) in (
             omega (arith, total-fits .0, t .few-entries, t .long),
-            places-hold 0 (length b) es (placed-wider 0 most (length b) es lent (rows₂ .placed)),
+            places-hold 0 (length b) es (placed-wider 0 most (length b) es lent (rows-fit .placed)),
           )
 
       module _ {w₃ b₃ : List ℕ} (s : FitsPlaces (l .«max_total_bytes») (left .entries) w₂ b w₃ b₃)
@@ -156,19 +154,19 @@ module _ (l : PendingFlowsConfig) (w b : List ℕ) (p : ℕ) (f : HeaderFigures)
         below = omega (arith, total-fits .0, t .few-entries)
 
         fits : heldSum 1024 (entriesFrom w₂ entriesAt m) ≤ room
-        fits = omega (arith, rows-bytes rows₂ b lent, within .room)
+        fits = omega (arith, rows-bytes rows-fit b lent, within .room)
 
-        rows₃ : Rows p k m room w₃
-        rows₃ = placed-rows rows₂ room (new .total-small) fits b lent below s
+        rows-placed : Rows p k m room w₃
+        rows-placed = placed-rows rows-fit room (new .total-small) fits b lent below s
 
-        abbrev ts₃ : List Template
-        ts₃ = templatesAt b₃ (entriesFrom w₃ entriesAt m) (recordsFrom w₃ p k)
+        abbrev afterPlacing : List Template
+        afterPlacing = templatesAt b₃ (entriesFrom w₃ entriesAt m) (recordsFrom w₃ p k)
 
-        templates₃ : ts₃ ≡ ts₂
-        templates₃ = placed-templates rows₂ room (new .total-small) fits b lent below s
+        templates-placed : afterPlacing ≡ afterFit
+        templates-placed = placed-templates rows-fit room (new .total-small) fits b lent below s
 
-        abbrev table₃ : Table
-        table₃ = record {
+        abbrev leftTable : Table
+        leftTable = record {
           limits = l;
           cached = 0;
           dropped = 0;
@@ -178,36 +176,36 @@ module _ (l : PendingFlowsConfig) (w b : List ℕ) (p : ℕ) (f : HeaderFigures)
           entries = entriesFrom w₃ entriesAt m;
         }
 
-        table-limited : Limited (cacheOf table₃ b₃)
-        table-limited = record { legal = limits-legal new; within = rw (templates₃, append-nil) within }
+        table-limited : Limited (cacheOf leftTable b₃)
+        table-limited = record { legal = limits-legal new; within = rw (templates-placed, append-nil) within }
 
-        legal₃ : LegalTable table₃ (indexFrom w₃ p k)
+        left-legal : LegalTable leftTable (indexFrom w₃ p k)
             × (length (recordsFrom w₃ p k) + 0 ≤ l .«max_pending_flows»)
             × (length (entriesFrom w₃ entriesAt m) ≤ maxBodies l)
-        legal₃ =
-            tied-legal table₃ b₃ (indexFrom w₃ p k) (rw append-nil (rows₃ .tied)) (rows₃ .placed)
+        left-legal =
+            tied-legal leftTable b₃ (indexFrom w₃ p k) (rw append-nil (rows-placed .tied)) (rows-placed .placed)
             (omega (arith, bytes-long, new .bytes-enough)) refl (omega arith) table-limited
 
         few-records : k ≤ l .«max_pending_flows»
-        few-records = omega (arith, legal₃ .1, length-records w₃ p k)
+        few-records = omega (arith, left-legal .1, length-records w₃ p k)
 
         few-entries : m ≤ maxBodies l
-        few-entries = omega (arith, legal₃ .2, length-entries w₃ entriesAt m)
+        few-entries = omega (arith, left-legal .2, length-entries w₃ entriesAt m)
 
-        long₃ : length w₃ ≡ length w
-        long₃ = words-long ∙ t .long ∙ c .long
+        still-long : length w₃ ≡ length w
+        still-long = words-long ∙ t .long ∙ c .long
 
         pub records-fit : recordWords * k ≤ 8192
-        records-fit = omega (arith, rows₃ .records-few)
+        records-fit = omega (arith, rows-placed .records-few)
 
         module _ {to : ℕ} (at : to ≡ recordsAt l) where
           pub move-fits : (p + recordWords * k ≤ length w₃) × (to + recordWords * k ≤ length w₃)
           move-fits = (
             omega (arith, total-fits .0, t .few-records, words-long, t .long),
-            omega (arith, at, few-records, long₃, new .words-enough),
+            omega (arith, at, few-records, still-long, new .words-enough),
           )
 
-          module _ {w₄ : List ℕ} (is : w₄ ≡ moved p to (recordWords * k) w₃) (long₄ : length w₄ ≡ length w₃) where
+          module _ {w₄ : List ℕ} (is : w₄ ≡ moved p to (recordWords * k) w₃) (moved-long : length w₄ ≡ length w₃) where
             moves : w₄ ≡ moved p (recordsAt l) (recordWords * k) w₃
             moves = is ∙ ap (λ (q : ℕ). moved p q (recordWords * k) w₃) at
 
@@ -243,19 +241,19 @@ module _ (l : PendingFlowsConfig) (w b : List ℕ) (p : ℕ) (f : HeaderFigures)
             bytes-past : drop (max most room) b₃ ≡ drop (max most room) b
             bytes-past =
                 drop-more (max most room) most b₃ b (omega arith)
-                (placed-behind rows₂ room (new .total-small) fits b lent below s)
+                (placed-behind rows-fit room (new .total-small) fits b lent below s)
 
             pub shrinks : Shrinks l w b w₄ b₃ left
             shrinks = record {
               few-records = few-records;
               few-entries = few-entries;
               legal = rw (same-records, same-index, same-entries)
-                  (table-holds table₃ (indexFrom w₃ p k) (legal₃ .0));
-              templates = rw (same-records, same-entries) (templates₃ ∙ templates₂);
+                  (table-holds leftTable (indexFrom w₃ p k) (left-legal .0));
+              templates = rw (same-records, same-entries) (templates-placed ∙ templates-fit);
               frame = record {
                 words-behind = words-past;
                 bytes-behind = bytes-past;
-                words-long = long₄ ∙ long₃;
+                words-long = moved-long ∙ still-long;
                 bytes-long = bytes-long;
               };
             }

@@ -1,16 +1,15 @@
 -- Rows whose records move: the same rows from another word on. Assumes nothing.
 use mathlib.Core.Path.{_≡_, refl, sym, ap, _∙_}
-use mathlib.Core.List.{List, [], _∷_}
+use mathlib.Core.List.{List}
 use Prim.Native.Nat.{ℕ, zero, suc, _+_, _*_, _≤_, _<_}
 use native.Mathlib.Omega.{arith}
 use lib.ListN.{length, getD, take, drop}
 use lib.Seq.{getD-take, getD-drop}
 use Rattle.areas.specs.Overwrite.{moved}
-use Rattle.areas.proofs.Moves.{moved-there, take-moved, drop-moved-from, length-moved}
+use Rattle.areas.proofs.Moves.{moved-there, take-moved, drop-moved-from}
 use Rattle.config.specs.Limits.{recordWords, entryWords}
-use Rattle.table.specs.declared.TemplateRecord.{TemplateRecord}
 use Rattle.table.specs.Layout.{word, entriesAt}
-use Rattle.table.specs.Table.{recordAt, entriesFrom, recordsFrom, indexFrom}
+use Rattle.table.specs.Table.{entriesFrom, recordsFrom, indexFrom}
 use Rattle.table_entries.proofs.Frames.{entries-below}
 use Rattle.table_records.proofs.Frames.{index-shifted}
 

@@ -1,5 +1,5 @@
 -- What is left of rows where bodies move together, or none has to. Assumes nothing.
-use mathlib.Core.Path.{_≡_, refl, sym, ap, _∙_}
+use mathlib.Core.Path.{_≡_, refl, sym, _∙_}
 use mathlib.Core.Bool.{Bool, true, false, cond}
 use mathlib.Core.List.{List, [], _∷_}
 use Prim.Native.Nat.{ℕ, _+_, _*_, _≤_, _<_}
@@ -12,9 +12,9 @@ use Rattle.table.specs.declared.Entry.{Entry}
 use Rattle.table.specs.declared.TemplateRecord.{TemplateRecord}
 use Rattle.table.specs.Layout.{entriesAt}
 use Rattle.table.specs.Table.{entriesFrom, recordsFrom, indexFrom, hasLabel, tally}
-use Rattle.table.proofs.Facts.{All, all-map, Placed}
+use Rattle.table.proofs.Facts.{all-map, Placed}
 use Rattle.table_entries.specs.Sums.{heldSum}
-use Rattle.table_entries.specs.Pack.{lastEnd, packedEntries, packedBytes, packedEnd}
+use Rattle.table_entries.specs.Pack.{lastEnd, packedEntries, packedBytes}
 use Rattle.table_entries.proofs.Lengths.{held-all, first-end-within, placed-wider}
 use Rattle.table_entries.proofs.Packed.{packed-end, packed-placed, all-packed, tally-packed}
 use Rattle.table_records.proofs.Frames.{records-above}

@@ -1,11 +1,11 @@
 -- A resized cache: what is left, under the new header. Assumes nothing.
-use mathlib.Core.Path.{_≡_, refl, sym, ap, _∙_}
+use mathlib.Core.Path.{_≡_, sym, ap, _∙_}
 use mathlib.Core.Bool.{true}
-use mathlib.Core.List.{List, [], _∷_, _++_, append-nil}
+use mathlib.Core.List.{List, [], _++_, append-nil}
 use mathlib.Core.Option.{some}
-use Prim.Native.Nat.{ℕ, _+_, _*_, _-_, _≤_, _<_, max}
+use Prim.Native.Nat.{ℕ, _+_, _*_, _-_, _≤_, max}
 use native.Mathlib.Omega.{arith}
-use lib.ListN.{length, take, drop, take-append-drop, drop-of-length-le}
+use lib.ListN.{length, take, drop, drop-of-length-le}
 use lib.Seq.{take-all}
 use Rattle.areas.specs.Overwrite.{overwritten}
 use Rattle.config.specs.declared.PendingFlowsConfig.{PendingFlowsConfig}
@@ -13,8 +13,8 @@ use Rattle.config.specs.Limits.{headerWords, recordWords, entryWords, maxBodies
 use Rattle.config.proofs.Limits as Config
 use Rattle.table.specs.declared.Entry.{Entry}
 use Rattle.table.specs.declared.TemplateRecord.{TemplateRecord}
-use Rattle.table.specs.Layout.{limitsOf, heldCount, entryCount, chanceCount, cachedWord, droppedWord, entriesAt, recordsAt}
-use Rattle.table.specs.Table.{tableOf, entriesFrom, recordsFrom, indexFrom, records, index, tally}
+use Rattle.table.specs.Layout.{limitsOf, heldCount, entryCount, chanceCount, entriesAt, recordsAt}
+use Rattle.table.specs.Table.{tableOf, entriesFrom, recordsFrom, indexFrom, records, tally}
 use Rattle.table.specs.Reads.{countSum}
 use Rattle.table.specs.WellFormed.{wellFormed}
 use Rattle.table.proofs.Words.{length-records, length-entries, length-index, records-behind}
@@ -27,7 +27,7 @@ use Rattle.cache_model.specs.Cache.{Cache, count, raised}
 use Rattle.cache_model.specs.Calls.{shrunk, resizedTo}
 use Rattle.cache_model.proofs.Drops.{resize-drops}
 use Rattle.cache_model.proofs.Calls.{Limited, resized-to-within}
-use Rattle.pending_flows.specs.View.{areasOf, templatesAt, cacheOf, view}
+use Rattle.pending_flows.specs.View.{areasOf, cacheOf, view}
 use Rattle.pending_flows.specs.declared.header.HeaderFigures.{HeaderFigures}
 use Rattle.pending_flows.specs.Header.{figuresAt, headerOf}
 use Rattle.pending_flows.proofs.Templates.{length-all-bodies}
@@ -43,6 +43,32 @@ use Rattle.pending_resize.proofs.Rows.{Rows, rows-small}
 use Rattle.pending_resize.proofs.Chosen.{all-front}
 use Rattle.pending_resize.proofs.Fits.{rows-total}
 
+-- ---- what is read of a well-formed cache
+
+module _ (w : List ℕ) (n : ℕ) (ok : wellFormed w n ≡ true) where
+  legal : LegalWords w n
+  legal = words-say w n ok
+
+  pub header-long : headerWords ≤ length w
+  header-long = legal .header-long
+
+  module _ (was : PendingFlowsConfig) (limits : was ≡ limitsOf w) where
+    pub old-bodies-few : maxBodies was ≤ 262144
+    old-bodies-few = rw limits (legal .limits-legal .bodies-few)
+
+    module _ (p : ℕ) (at : p ≡ recordsAt was) where
+      pub old-place : p ≡ recordsAt (limitsOf w)
+      old-place = at ∙ ap recordsAt limits
+
+      module _ (f : HeaderFigures) (figures : f ≡ figuresAt w) where
+        pub records-within : p + recordWords * (f .templates + f .chance) ≤ length w
+        records-within = rw (old-place, figures) (omega (arith, legal .templates-fit, legal .limits-legal .words-enough))
+
+        pub handed-single : f .chance ≤ 1
+        handed-single = rw figures (legal .chance-flag)
+
+-- ---- what is left of it
+
 module _ (l : PendingFlowsConfig) (w b : List ℕ)
     (ok : (wellFormed w (length b) ≡ true) × (configNumber l (length b) (length w) ≡ 0)) where
   old : LegalWords w (length b)
@@ -53,12 +79,6 @@ module _ (l : PendingFlowsConfig) (w b : List ℕ)
 
   abbrev cache : Cache
   cache = cacheOf (tableOf w) b
-
-  pub header-long : headerWords ≤ length w
-  header-long = old .header-long
-
-  pub old-bodies-few : {was : PendingFlowsConfig} → was ≡ limitsOf w → maxBodies was ≤ 262144
-  old-bodies-few e = rw e (old .limits-legal .bodies-few)
 
   -- held bodies and handed-out ones are all
   held-count : length (allBodies (cache .held)) + countSum (tableOf w .handed) ≡ entryCount w
@@ -75,88 +95,76 @@ module _ (l : PendingFlowsConfig) (w b : List ℕ)
         length-entries w entriesAt (entryCount w),
       )
 
-  -- ---- the handed-out bodies
+  module _ (w₁ b₁ : List ℕ) (left : Removed) (s : Shrinks l w b w₁ b₁ left) where
+    abbrev k : ℕ
+    k = left .records
 
-  module _ {was : PendingFlowsConfig} {p : ℕ} {f : HeaderFigures} (limits : was ≡ limitsOf w) (at : p ≡ recordsAt was)
-      (figures : f ≡ figuresAt w) where
-    start : p ≡ recordsAt (limitsOf w)
-    start = at ∙ ap recordsAt limits
+    abbrev m : ℕ
+    m = left .entries
 
-    pub handed-fit : (p + recordWords * f .templates + recordWords * f .chance ≤ length w) × (f .chance ≤ 1)
-    handed-fit =
-        rw (start, figures)
-        (omega (arith, old .templates-fit, old .limits-legal .words-enough), old .chance-flag)
+    abbrev rs : List TemplateRecord
+    rs = recordsFrom w₁ (recordsAt l) k
 
-    pub figures-read : (p ≡ recordsAt (limitsOf w)) × (f ≡ figuresAt w)
-    figures-read = (start, figures)
+    abbrev es : List Entry
+    es = entriesFrom w₁ entriesAt m
 
-    handed-are : countSum (recordsFrom w (p + recordWords * f .templates) (f .chance)) ≡ countSum (tableOf w .handed)
-    handed-are =
-        rw (start, figures)
-        (ap countSum (sym (records-behind w (recordsAt (limitsOf w)) (heldCount w) (chanceCount w))))
+    abbrev is : List ℕ
+    is = indexFrom w₁ (recordsAt l) k
 
-    -- ---- what is left
+    left-legal : LegalTable (tableLeft l k m w₁) is
+    left-legal = table-says (tableLeft l k m w₁) is (s .legal)
 
-    module _ {handed : ℕ} (counted : handed ≡ countSum (recordsFrom w (p + recordWords * f .templates) (f .chance)))
-        {w₁ b₁ : List ℕ} {left : Removed} (s : Shrinks l w b w₁ b₁ left) where
-      abbrev k : ℕ
-      k = left .records
+    left-tied : Tied rs es is
+    left-tied =
+        let long = length-index w₁ (recordsAt l) k ∙ sym (length-records w₁ (recordsAt l) k) in
+        rw append-nil at (legal-tied (tableLeft l k m w₁) is left-legal (rw append-nil long))
 
-      abbrev m : ℕ
-      m = left .entries
+    left-rows : Rows (recordsAt l) k m (l .«max_total_bytes») w₁
+    left-rows = record {
+      tied = left-tied;
+      placed = left-legal .entries-placed;
+      records-few = omega (arith, s .few-records, new .templates-few);
+      entries-few = omega (arith, s .few-entries, new .bodies-few);
+      bytes-few = new .total-small;
+    }
 
-      abbrev rs : List TemplateRecord
-      rs = recordsFrom w₁ (recordsAt l) k
+    left-count : length (allBodies (shrunk l (cache .held) .held)) ≡ m
+    left-count =
+        ap (λ (ts : List Template). length (allBodies ts)) (sym (s .templates))
+        ∙ length-all-bodies b₁ es rs (left-tied .counts-right)
+        ∙ counts-sum rs es (left-tied .labels-differ) (left-tied .labels-known) (left-tied .counts-right)
+        ∙ length-entries w₁ entriesAt m
 
-      abbrev es : List Entry
-      es = entriesFrom w₁ entriesAt m
+    long : length w₁ ≡ length w
+    long = s .frame .words-long
 
-      abbrev is : List ℕ
-      is = indexFrom w₁ (recordsAt l) k
+    pub entries-within : entriesAt + entryWords * m ≤ length w₁
+    entries-within = omega (arith, s .few-entries, new .words-enough, long)
 
-      left-legal : LegalTable (tableLeft l k m w₁) is
-      left-legal = table-says (tableLeft l k m w₁) is (s .legal)
+    pub bytes-small : heldSum 1024 es ≤ 18446744073709551615
+    bytes-small = rows-small left-rows
 
-      left-tied : Tied rs es is
-      left-tied =
-          let long = length-index w₁ (recordsAt l) k ∙ sym (length-records w₁ (recordsAt l) k) in
-          rw append-nil at (legal-tied (tableLeft l k m w₁) is left-legal (rw append-nil long))
+    pub left-header : headerWords ≤ length w₁
+    left-header = omega (arith, old .header-long, long)
 
-      left-rows : Rows (recordsAt l) k m (l .«max_total_bytes») w₁
-      left-rows = record {
-        tied = left-tied;
-        placed = left-legal .entries-placed;
-        records-few = omega (arith, s .few-records, new .templates-few);
-        entries-few = omega (arith, s .few-entries, new .bodies-few);
-        bytes-few = new .total-small;
-      }
-
-      left-count : length (allBodies (shrunk l (cache .held) .held)) ≡ m
-      left-count =
-          ap (λ (ts : List Template). length (allBodies ts)) (sym (s .templates))
-          ∙ length-all-bodies b₁ es rs (left-tied .counts-right)
-          ∙ counts-sum rs es (left-tied .labels-differ) (left-tied .labels-known) (left-tied .counts-right)
-          ∙ length-entries w₁ entriesAt m
+    module _ (was : PendingFlowsConfig) (p : ℕ) (f : HeaderFigures) (handed : ℕ) (limits : was ≡ limitsOf w)
+        (at : p ≡ recordsAt was) (figures : f ≡ figuresAt w)
+        (counted : handed ≡ countSum (recordsFrom w (p + recordWords * f .templates) (f .chance))) where
+      handed-are : handed ≡ countSum (tableOf w .handed)
+      handed-are =
+          let behind = records-behind w (recordsAt (limitsOf w)) (heldCount w) (chanceCount w) in
+          counted ∙ rw (at, limits, figures) (ap countSum (sym behind))
 
       removed-count : length (shrunk l (cache .held) .removed) + m + handed ≡ f .entries
       removed-count =
           let all : entryCount w ≡ f .entries = ap (λ (g : HeaderFigures). g .entries) (sym figures) in
-          omega (arith, resize-drops l (cache .held), left-count, held-count, counted, handed-are)
+          omega (arith, resize-drops l (cache .held), left-count, held-count, handed-are)
 
       pub handed-few : handed ≤ f .entries
       handed-few = omega (arith, removed-count)
 
       pub left-few : m ≤ f .entries - handed
       left-few = omega (arith, removed-count)
-
-      long : length w₁ ≡ length w
-      long = s .frame .words-long
-
-      pub bytes-fit : (entriesAt + entryWords * m ≤ length w₁) × (heldSum 1024 es ≤ 18446744073709551615)
-      bytes-fit = (omega (arith, s .few-entries, new .words-enough, long), rows-small left-rows)
-
-      pub left-header : headerWords ≤ length w₁
-      left-header = omega (arith, old .header-long, long)
 
       -- ---- under the new header
 
@@ -170,7 +178,7 @@ module _ (l : PendingFlowsConfig) (w b : List ℕ)
         chance = 0;
       }
 
-      module _ {dropped total : ℕ} {w₂ : List ℕ} (sum : total ≡ heldSum 1024 es)
+      module _ (dropped total : ℕ) (w₂ : List ℕ) (sum : total ≡ heldSum 1024 es)
           (more : dropped ≡ raised (f .dropped) (f .entries - handed - m))
           (written : w₂ ≡ overwritten w₁ (headerOf l (after dropped total))) where
         is-headed : w₂ ≡ headed l (after dropped total) w₁

@@ -1,17 +1,15 @@
 -- Rows of words: records with their index, and entries, that belong together, whatever the header says; and what a
 -- removal leaves of them. Assumes nothing.
-use mathlib.Core.Path.{_≡_, refl, sym, ap, _∙_}
-use mathlib.Core.Bool.{true}
-use mathlib.Core.List.{List, [], _∷_, _++_}
-use Prim.Native.Nat.{ℕ, _+_, _*_, _-_, _≤_, _<_}
+use mathlib.Core.Path.{_≡_, sym, ap, _∙_}
+use mathlib.Core.List.{List}
+use Prim.Native.Nat.{ℕ, _-_, _≤_, _<_}
 use native.Mathlib.Omega.{arith}
 use lib.ListN.{length, getD, drop}
 use Rattle.table.specs.declared.Entry.{Entry}
 use Rattle.table.specs.declared.TemplateRecord.{TemplateRecord}
 use Rattle.table.specs.Layout.{entriesAt}
 use Rattle.table.specs.Table.{entriesFrom, recordsFrom, indexFrom, tally}
-use Rattle.table.specs.WellFormed.{indexRises}
-use Rattle.table.proofs.Words.{length-entries, length-records, length-index}
+use Rattle.table.proofs.Words.{length-entries, length-records}
 use Rattle.table.proofs.Facts.{All, all-both, Placed}
 use Rattle.table_entries.specs.declared.StayTest.{StayTest}
 use Rattle.table_entries.specs.Sums.{sumMost, heldSum}
@@ -46,18 +44,6 @@ rows-small {p = p} {k = k} {m = m} {most = most} {w = w} h =
     let es = entriesFrom w entriesAt m in
     let labels = entries-small (recordsFrom w p k) es (h .tied .labels-small) (h .tied .labels-known) in
     omega (arith, held-all 1024 es labels, lens-within 0 most es (omega arith) (h .placed), h .bytes-few)
-
--- rows are told by what is read
-pub rows-read : {p p′ k m most : ℕ} (w w′ : List ℕ) → recordsFrom w′ p′ k ≡ recordsFrom w p k →
-    indexFrom w′ p′ k ≡ indexFrom w p k → entriesFrom w′ entriesAt m ≡ entriesFrom w entriesAt m →
-    Rows p k m most w → Rows p′ k m most w′
-rows-read w w′ rs is es h = record {
-  tied = rw (rs, is, es) (h .tied);
-  placed = rw es (h .placed);
-  records-few = h .records-few;
-  entries-few = h .entries-few;
-  bytes-few = h .bytes-few;
-}
 
 module _ {p k m most : ℕ} {w : List ℕ} (h : Rows p k m most w) (q : StayTest) (skip : List ℕ) where
   abbrev rs : List TemplateRecord

@@ -8,7 +8,7 @@ use lib.Dec.{leb, ltb}
 use lib.ListN.{length, getD, take, length-replicate}
 use borrow.Author.Tests.{le-leb, lt-leb}
 use Rattle.config.specs.declared.PendingFlowsConfig.{PendingFlowsConfig}
-use Rattle.config.specs.Limits.{recordWords, entryWords}
+use Rattle.config.specs.Limits.{recordWords}
 use Rattle.table.specs.declared.Entry.{Entry}
 use Rattle.table.specs.declared.TemplateRecord.{TemplateRecord}
 use Rattle.table.specs.Layout.{entriesAt}
@@ -26,8 +26,8 @@ use Rattle.pending_flows.proofs.Questions.{first-records}
 use Rattle.pending_calls.specs.declared.removal.Removed.{Removed}
 use Rattle.pending_calls.specs.Removal.{everything, Removes}
 use Rattle.pending_resize.specs.Removing.{zeros, RemovesSkipped}
-use Rattle.pending_resize.specs.Cut.{smallEnough, cutSkips, Cuts}
-use Rattle.pending_resize.specs.Fit.{overTotal, totalSkips, FitsTotal, fittedEntries, fittedBytes, FitsPlaces}
+use Rattle.pending_resize.specs.Cut.{smallEnough, cutSkips}
+use Rattle.pending_resize.specs.Fit.{overTotal, totalSkips, fittedEntries, fittedBytes, FitsPlaces}
 
 -- the counts that a removal leaves are told by the entries
 pub skipped-removed : {q : StayTest} {p k m : ℕ} {skip w w′ kept′ : List ℕ} {r : Removed} →
@@ -160,6 +160,5 @@ module _ (w : List ℕ) (p c : ℕ) where
       r .count ≡ countSum (recordsFrom w p c)
   unfolding countSum
   one-handed r is some single =
-      let z : c - 1 ≤ 0 = omega arith in
-      let rest = records-none w (p + recordWords) (c - 1) z in
+      let rest = records-none w (p + recordWords) (c - 1) (omega arith) in
       rw (records-first w p c (omega (arith, some)) r is, rest) (omega arith)

@@ -8,10 +8,8 @@ use Rattle.config.specs.Limits.{wordsNeeded, maxBodies}
 use Rattle.table.specs.Layout.{limitsOf, entriesAt, recordsAt}
 use Rattle.table.specs.Table.{Table, tableOf, entriesFrom, recordsFrom, indexFrom, sumLens}
 use Rattle.table.specs.WellFormed.{tableLegal}
-use Rattle.cache_model.specs.Bodies.{Template}
-use Rattle.cache_model.specs.Cache.{Cache, Answer, count}
-use Rattle.cache_model.specs.Calls.{shrunk, resizedTo}
-use Rattle.pending_flows.specs.View.{Areas, areasOf, templatesAt, cacheOf, view}
+use Rattle.cache_model.specs.Calls.{shrunk}
+use Rattle.pending_flows.specs.View.{Areas, areasOf, templatesAt, cacheOf}
 use Rattle.pending_calls.specs.Promises.{Untouched}
 use Rattle.pending_calls.specs.declared.removal.Removed.{Removed}
 

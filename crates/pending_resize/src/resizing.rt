@@ -44,15 +44,15 @@ fn raised(counter: u64, n: u64) -> u64
     counter + n
 }
 
-// How many bodies are handed out: those of the record from word `p` on, where there is one.
-fn handed_bodies(words: &[u64], p: usize, chance: u64) -> u64
-    requires { ⌜ (p + recordWords * chance ≤ length (now words)) × (chance ≤ 1) ⌝ }
-    ensures { λ r. ⌜ r ≡ countSum (recordsFrom (now (words .entry)) p chance) ⌝ }
+// How many bodies are handed out: those of the record behind the held ones, where there is one.
+fn handed_bodies(words: &[u64], from: usize, held: usize, chance: u64) -> u64
+    requires { ⌜ (from + recordWords * (held + chance) ≤ length (now words)) × (chance ≤ 1) ⌝ }
+    ensures { λ r. ⌜ r ≡ countSum (recordsFrom (now (words .entry)) (from + recordWords * held) chance) ⌝ }
 {
     if chance == 0 {
         return 0;
     }
-    record_at(words, p).count
+    record_at(words, from + RECORD_WORDS * held).count
 }
 
 // Resizes a well-formed cache to limits that are not refused; answers how many bodies are dropped.
@@ -64,13 +64,10 @@ fn resize_cache(words: &mut [u64], bytes: &mut [u8], config: PendingFlowsConfig)
         (areasOf (now (words .entry)) (now (bytes .entry))) r
         (areasOf (now (words .exit)) (now (bytes .exit))) ⌝ }
 {
-    let from = records_at(limits_at(words));
+    let limits = limits_at(words);
+    let from = records_at(limits);
     let figures = figures_at(words);
-    let handed = handed_bodies(
-        words,
-        from + RECORD_WORDS * (figures.templates as usize),
-        figures.chance,
-    );
+    let handed = handed_bodies(words, from, figures.templates as usize, figures.chance);
     let left = shrink(words, bytes, from, figures, config);
     let dropped = figures.entries - handed - (left.entries as u64);
     let total = held_bytes(words, left.entries, LABELS as u64);

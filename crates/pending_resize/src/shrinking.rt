@@ -42,6 +42,7 @@ pub fn shrink(
     );
     let left = fit_total(words, from, few.records, few.entries, room);
     fit_places(words, bytes, left.entries, room);
-    areas::move_words(words, from, records_at(config), RECORD_WORDS * left.records);
+    let to = records_at(config);
+    areas::move_words(words, from, to, RECORD_WORDS * left.records);
     left
 }
