@@ -63,7 +63,8 @@ module _ (l : PendingFlowsConfig) (w b : List ℕ) {v : Bool} (tested : v ≡ we
       cached : view (areasOf w b) ≡ some (cacheOf (tableOf w) b)
       cached = view-some w b tested (not-false v h)
 
-      pub resize-refused : {n : ConfigRefusal} → a ≡ Refused n → Resizes l (areasOf w b) (Resize.Refused n) (areasOf w b)
+      pub resize-refused : {n : ConfigRefusal} → a ≡ Refused n →
+          Resizes l (areasOf w b) (Resize.Refused n) (areasOf w b)
       unfolding resized
       resize-refused {n} is =
           let number-is : configNumber l (length b) (length w) ≡ refusalNumber n = sym answered ∙ ap answerNumber is in

@@ -61,7 +61,8 @@ module _ (from to k : ℕ) (w w′ : List ℕ) (is : w′ ≡ moved from to (rec
           let z′ : from + (recordWords * i + 3) ≡ from + recordWords * i + 3 = omega arith in
           ap (word w′) (sym z) ∙ word-moved (recordWords * i + 3) (omega arith) ∙ ap (word w) z′
 
-  pub entries-before : (m : ℕ) → entriesAt + entryWords * m ≤ to → entriesFrom w′ entriesAt m ≡ entriesFrom w entriesAt m
+  pub entries-before : (m : ℕ) → entriesAt + entryWords * m ≤ to →
+      entriesFrom w′ entriesAt m ≡ entriesFrom w entriesAt m
   entries-before m h = entries-below w′ w entriesAt m to h (rw is (take-moved from to n w source target))
 
   pub words-behind : (j : ℕ) → to + n ≤ j → drop j w′ ≡ drop j w

@@ -62,7 +62,8 @@ module _ (w : List ℕ) (n : ℕ) (ok : wellFormed w n ≡ true) where
 
       module _ (f : HeaderFigures) (figures : f ≡ figuresAt w) where
         pub records-within : p + recordWords * (f .templates + f .chance) ≤ length w
-        records-within = rw (old-place, figures) (omega (arith, legal .templates-fit, legal .limits-legal .words-enough))
+        records-within =
+            rw (old-place, figures) (omega (arith, legal .templates-fit, legal .limits-legal .words-enough))
 
         pub handed-single : f .chance ≤ 1
         handed-single = rw figures (legal .chance-flag)
@@ -85,7 +86,8 @@ module _ (l : PendingFlowsConfig) (w b : List ℕ)
   held-count =
       let t = tableOf w in
       let tied = words-tied w (length b) old in
-      let front = all-front (λ r. r .count ≡ tally (r .label) (t .entries)) (t .held) (t .handed) (tied .counts-right) in
+      let Counted : TemplateRecord → Type 0 = λ r. r .count ≡ tally (r .label) (t .entries) in
+      let front = all-front Counted (t .held) (t .handed) (tied .counts-right) in
       omega (
         arith,
         length-all-bodies b (t .entries) (t .held) front,
