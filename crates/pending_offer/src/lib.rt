@@ -1,5 +1,7 @@
 // Offering a body to a pending flow cache (pending_flows.rs).
 mod offering;
+mod settling;
+mod storing;
 
 pub use offering::OfferAnswer;
 pub use offering::OfferRefusal;

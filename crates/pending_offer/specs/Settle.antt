@@ -1,0 +1,2 @@
+-- The header after an offer.
+use Prim.Native.Nat.{ℕ}
