@@ -1,8 +1,8 @@
 -- Records whose keys and labels differ: a label tells them apart as the key does. So what is decided by label is
 -- decided by id. Assumes nothing.
-use mathlib.Core.Path.{_≡_, refl, sym, ap, _∙_}
+use mathlib.Core.Path.{_≡_, refl, sym, _∙_}
 use mathlib.Core.Logic.{_≢_}
-use mathlib.Core.Bool.{Bool, true, false, _||_, cond}
+use mathlib.Core.Bool.{Bool, true, false, cond}
 use mathlib.Core.List.{List, [], _∷_, _++_}
 use Prim.Native.Nat.{ℕ, zero, suc, _<_}
 use native.Mathlib.Omega.{arith}
@@ -15,7 +15,7 @@ use Rattle.table.specs.declared.LabelFound.{LabelFound}
 use Rattle.table.specs.declared.LabelFound.the-variants as Label
 use Rattle.table.specs.Table.{hasLabel}
 use Rattle.table.specs.Reads.{labelOf}
-use Rattle.table.proofs.Facts.{All, all-map, all-both, Differ}
+use Rattle.table.proofs.Facts.{All, all-both, Differ}
 use Rattle.cache_model.proofs.Thinning.{hasId}
 use Rattle.pending_flows.specs.View.{templatesAt}
 use Rattle.pending_offer.specs.Plan.{labelOr}

@@ -1,6 +1,6 @@
 -- The plan of an offer from its steps, with the limits l and the figures f that were read, the records from word p on,
 -- and n templates that go for their bytes. Assumes nothing.
-use mathlib.Core.Path.{_≡_, sym, ap, _∙_}
+use mathlib.Core.Path.{_≡_, ap, _∙_}
 use mathlib.Core.Bool.{true}
 use mathlib.Core.List.{List}
 use Prim.Native.Nat.{ℕ, _+_, _*_, _-_, _≤_, _<_}

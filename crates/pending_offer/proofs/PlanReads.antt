@@ -1,13 +1,13 @@
 -- What an offer reads off the records, with the bytes or the live bodies of each label beside them, is what the model
 -- reads off their templates. Assumes nothing.
-use mathlib.Core.Path.{_≡_, refl, sym, ap, _∙_}
-use mathlib.Core.Bool.{Bool, true, false, not, _&&_, _||_, cond}
+use mathlib.Core.Path.{_≡_, refl, sym}
+use mathlib.Core.Bool.{Bool, true, false, cond}
 use mathlib.Core.List.{List, [], _∷_}
-use Prim.Native.Nat.{ℕ, zero, suc, _+_, _-_, _≤_, _<_}
+use Prim.Native.Nat.{ℕ, _+_, _-_, _≤_, _<_}
 use native.Mathlib.Omega.{arith}
 use lib.Dec.{eqb, leb, ltb}
 use lib.ListN.{length, getD}
-use borrow.Author.Tests.{eqb-true, ltb-true, ltb-false, leb-true, leb-false, lt-ltb, le-ltb, le-leb, lt-leb}
+use borrow.Author.Tests.{ltb-true, ltb-false, leb-true, leb-false, lt-ltb, le-ltb, le-leb, lt-leb}
 use Rattle.table.specs.declared.Entry.{Entry}
 use Rattle.table.specs.declared.TemplateRecord.{TemplateRecord}
 use Rattle.table.specs.declared.LabelFound.{LabelFound}
@@ -15,10 +15,11 @@ use Rattle.table.specs.declared.LabelFound.the-variants as Label
 use Rattle.table.specs.Reads.{labelOf}
 use Rattle.table.proofs.Facts.{All}
 use Rattle.table_records.specs.Choose.{evictionsOf, liveRecords, firstLive}
-use Rattle.cache_model.specs.Bodies.{Body, Template, size, sumBodies, sumTemplates, keep, bodiesOf, without, unlessEmpty}
+use Rattle.cache_model.specs.Bodies.{Body, Template, size, sumBodies, sumTemplates, keep, bodiesOf, without}
+use Rattle.cache_model.specs.Bodies.{unlessEmpty}
 use Rattle.cache_model.specs.Removal.{evictions, keptOf}
 use Rattle.cache_model.proofs.Thinning.{firstId}
-use Rattle.pending_flows.specs.View.{bodiesAt, templatesAt}
+use Rattle.pending_flows.specs.View.{bodiesAt, templateAt, templatesAt}
 use Rattle.pending_flows.proofs.Templates.{length-templates}
 use Rattle.pending_offer.specs.Plan.{liveAt, othersFill}
 
@@ -33,7 +34,8 @@ module _ (b : List ℕ) (es : List Entry) where
   Sized sizes rs = All (λ r. getD sizes (r .label) 0 ≡ sumBodies size (bodiesAt b (r .label) es)) rs
 
   -- how many templates go for their bytes
-  pub evictions-read : (most more total : ℕ) (sizes : List ℕ) (rs : List TemplateRecord) → more ≤ most → Sized sizes rs →
+  pub evictions-read : (most more total : ℕ) (sizes : List ℕ) (rs : List TemplateRecord) → more ≤ most →
+      Sized sizes rs →
       total ≡ sumTemplates size (templatesAt b es rs) →
       evictionsOf (most - more) sizes total rs ≡ evictions most more (templatesAt b es rs)
   unfolding evictionsOf evictions
@@ -129,7 +131,7 @@ module _ (b : List ℕ) (es : List Entry) where
       ts = templatesAt b es rs
 
       by-key : (t : Bool) → length rs ≡ length (without id ts) + foundOne (labelOf id rs) →
-          length (r ∷ rs) ≡ length (cond t ts (record { id = r .key; bodies = bodiesAt b (r .label) es } ∷ without id ts))
+          length (r ∷ rs) ≡ length (cond t ts (templateAt b es r ∷ without id ts))
           + foundOne (cond t (Label.At (r .label)) (labelOf id rs))
       by-key true ih = omega (arith, length-templates b es rs)
       by-key false ih = omega arith

@@ -2,7 +2,7 @@
 -- Assumes nothing.
 use mathlib.Core.Path.{_≡_, refl, sym, ap, _∙_}
 use mathlib.Core.Logic.{_≢_}
-use mathlib.Core.Bool.{Bool, true, false, _&&_, _||_, cond}
+use mathlib.Core.Bool.{Bool, true, false, _&&_, cond}
 use mathlib.Core.List.{List, [], _∷_}
 use Prim.Native.Nat.{ℕ, _<_}
 use native.Mathlib.Omega.{arith}
@@ -16,6 +16,7 @@ use Rattle.table.proofs.Facts.{All, all-map, all-both}
 use Rattle.table.proofs.Labels.{absent-holds}
 use Rattle.table_records.specs.Choose.{skipAll, skipping}
 use Rattle.table_records.proofs.Skips.{length-skipping, skipping-at}
+use Rattle.table_view.proofs.Tied.{or-second}
 use Rattle.table_view.proofs.Summed.{zeros}
 
 -- one label more, or not
@@ -80,14 +81,10 @@ module _ (gone handed : List TemplateRecord) (t : Bool) (label : ℕ) where
       all-both (λ u. u .label < 1024) (λ u. hasLabel (u .label) handed ≡ true)
       (λ u. getD skipped (u .label) 0 ≡ skipAll) (λ u s h. handed-skipped (u .label) s h) handed small (each handed)
     where
-      or-right : (s t : Bool) → t ≡ true → s || t ≡ true
-      or-right true t e = refl
-      or-right false t e = e
-
       each : (rs : List TemplateRecord) → All (λ u. hasLabel (u .label) rs ≡ true) rs
       each [] = tt
       each (r ∷ rs) = (
         rw (eq-eqb (r .label) (r .label) refl),
         all-map (λ u. hasLabel (u .label) rs ≡ true) (λ u. hasLabel (u .label) (r ∷ rs) ≡ true)
-            (λ u h. or-right (eqb (u .label) (r .label)) (hasLabel (u .label) rs) h) rs (each rs),
+            (λ u h. or-second (eqb (u .label) (r .label)) (hasLabel (u .label) rs) h) rs (each rs),
       )

@@ -3,7 +3,7 @@ use mathlib.Core.Path.{_≡_, refl, sym, ap, _∙_}
 use mathlib.Core.Logic.{_≢_}
 use mathlib.Core.Bool.{Bool, true, false, not, _&&_, _||_, cond}
 use mathlib.Core.List.{List, [], _∷_, _++_}
-use Prim.Native.Nat.{ℕ, _≤_, _<_}
+use Prim.Native.Nat.{ℕ, _<_}
 use native.Mathlib.Omega.{arith}
 use lib.Dec.{eqb, leb, ltb}
 use lib.ListN.{length, getD, take, drop}
@@ -12,7 +12,7 @@ use Rattle.config.specs.declared.PendingFlowsConfig.{PendingFlowsConfig}
 use Rattle.table.specs.declared.Entry.{Entry}
 use Rattle.table.specs.declared.TemplateRecord.{TemplateRecord}
 use Rattle.table.specs.Layout.{limitsOf}
-use Rattle.table.specs.Table.{tableOf, index, hasLabel}
+use Rattle.table.specs.Table.{tableOf, index}
 use Rattle.table.specs.WellFormed.{wellFormed}
 use Rattle.table.specs.Reads.{labelOf}
 use Rattle.table.proofs.Facts.{All, all-map}
@@ -21,10 +21,10 @@ use Rattle.table_entries.specs.Sums.{summed}
 use Rattle.table_records.specs.Choose.{skipAll, skipping, liveRecords, firstLive}
 use Rattle.cache_model.specs.Bodies.{Body, Template, size, keep, bodiesOf, without, expired}
 use Rattle.cache_model.specs.Removal.{evictions, keptOf}
-use Rattle.cache_model.specs.Offer.{Verdict, accepted, refused}
+use Rattle.cache_model.specs.Offer.{accepted, refused}
 use Rattle.cache_model.proofs.Choices.{and-right}
 use Rattle.cache_model.proofs.Thinning.{hasId, firstId}
-use Rattle.cache_model.proofs.Plans.{Plan, planOf, over, plan, thinBy, thin}
+use Rattle.cache_model.proofs.Plans.{Plan, planOf, plan, thinBy, thin}
 use Rattle.pending_flows.specs.View.{bodiesAt, templatesAt}
 use Rattle.table_view.proofs.Tied.{Tied}
 use Rattle.table_view.proofs.Swept.{bodyStays}
@@ -32,12 +32,12 @@ use Rattle.table_view.proofs.Summed.{zeros}
 use Rattle.table_view.proofs.Closed.{templates-take, templates-drop}
 use Rattle.pending_offer.specs.declared.plan.OfferPlan.{OfferPlan}
 use Rattle.pending_offer.specs.declared.plan.Decision.{Decision}
-use Rattle.pending_offer.specs.Plan.{liveTest, labelOr, liveAt, othersFill, Decides, planTest, Plans}
+use Rattle.pending_offer.specs.Plan.{liveTest, labelOr, liveAt, Decides, planTest, Plans}
 use Rattle.pending_offer.proofs.PlanReads.{Counted, here-read, others-read, alive-read, first-read}
 use Rattle.pending_offer.proofs.PlanLabels.{all-take, all-drop, all-back, differ-front, differ-apart, Alike}
 use Rattle.pending_offer.proofs.PlanLabels.{alike, has-alike, label-alike}
-use Rattle.pending_offer.proofs.PlanSums.{unaged, keep-unaged, all-skipped}
-use Rattle.pending_offer.proofs.PlanSkips.{skippingOne, skipped, skipped-long, held-skipped, all-handed-skipped}
+use Rattle.pending_offer.proofs.PlanSums.{keep-unaged, all-skipped}
+use Rattle.pending_offer.proofs.PlanSkips.{skipped, skipped-long, held-skipped, all-handed-skipped}
 use Rattle.pending_offer.proofs.PlanTables.{rows, labels-small, within, short, entries-few, some-templates}
 use Rattle.pending_offer.proofs.PlanTables.{held-counted}
 
@@ -245,8 +245,8 @@ module _ (w b : List ℕ) (id len clock : ℕ) where
 -- nothing of what is handed out stays, whatever the test
 pub chance-skipped : (w b : List ℕ) → wellFormed w (length b) ≡ true → {id len clock : ℕ} {skip′ : List ℕ}
     {r : OfferPlan} → Plans w b id len clock skip′ r → (q : StayTest) →
-    All (λ u. drop (getD skip′ (u .label) 0) (keep (bodyStays q (u .label)) (bodiesAt b (u .label) (tableOf w .entries)))
-    ≡ []) (tableOf w .handed)
+    All (λ u. drop (getD skip′ (u .label) 0) (keep (bodyStays q (u .label)) (bodiesAt b (u .label)
+    (tableOf w .entries))) ≡ []) (tableOf w .handed)
 chance-skipped w b ok p q =
     all-map _ _
     (λ u e. rw e (all-skipped b (u .label) q skipAll (tableOf w .entries) (within w b ok) (entries-few w b ok)))

@@ -1,7 +1,7 @@
 -- What an offer decides before anything is written: the model's plan (cache_model, proofs/Plans.antt), read off the
 -- records and the live bodies of each label.
 use mathlib.Core.Path.{_≡_}
-use mathlib.Core.List.{List, []}
+use mathlib.Core.List.{List}
 use mathlib.Core.Bool.{Bool, true, false, not, _&&_, cond}
 use Prim.Native.Nat.{ℕ, _-_}
 use lib.Dec.{leb, ltb}
@@ -20,7 +20,7 @@ use Rattle.table_entries.specs.declared.StayTest.{StayTest}
 use Rattle.table_entries.specs.Sums.{summed}
 use Rattle.table_records.specs.Choose.{skipAll, liveRecords, firstLive}
 use Rattle.cache_model.specs.Bodies.{Body, size, expired, keep}
-use Rattle.cache_model.specs.Offer.{Verdict, accepted, refused}
+use Rattle.cache_model.specs.Offer.{accepted, refused}
 use Rattle.cache_model.proofs.Plans.{plan, thin}
 use Rattle.pending_flows.specs.View.{bodiesAt, cacheOf}
 use Rattle.table_view.proofs.Swept.{bodyStays}
@@ -76,8 +76,8 @@ planTest l clock r = record {
   «max_size» = 18446744073709551615;
 }
 
--- The plan is the model's, for a body of this length: what it leaves of each template's bodies, and that nothing of what
--- is handed out stays.
+-- The plan is the model's for a body of this length: the verdict, and what is left of each template's bodies.
+-- Nothing of what is handed out stays.
 pub record Plans (w b : List ℕ) (id len clock : ℕ) (skip′ : List ℕ) (r : OfferPlan) : Type 0 where
   pub verdict : (x : Body) → size x ≡ len →
       plan (limitsOf w) (expired (limitsOf w .ttl) clock) id x (cacheOf (tableOf w) b .held) .verdict

@@ -43,9 +43,9 @@ pub struct OfferPlan {
 }
 
 // What is decided by the templates that step 2 leaves.
-pub struct Decision {
-    pub full: bool,
-    pub all: bool,
+struct Decision {
+    full: bool,
+    all: bool,
 }
 
 // The test by which bodies that are not expired stay.
@@ -117,11 +117,24 @@ fn evictions_for(
     if figures.total <= room {
         return 0;
     }
-    // with no time to live no body is expired: those that are go after this step
+    // expired bodies count: they go after this step, and with no time to live none is expired
     let ttl = Ttl::None;
     let mut sizes = [0u32; LABELS];
-    sums_by_label(words, figures.entries as usize, live_test(ttl, 0), true, &mut sizes);
-    evictions_of(words, records_at(limits), figures.templates as usize, room, figures.total, &sizes)
+    sums_by_label(
+        words,
+        figures.entries as usize,
+        live_test(ttl, 0),
+        true,
+        &mut sizes,
+    );
+    evictions_of(
+        words,
+        records_at(limits),
+        figures.templates as usize,
+        room,
+        figures.total,
+        &sizes,
+    )
 }
 
 // Has the least recent template with live bodies skipped, where those templates are as many as there may be.
@@ -170,9 +183,15 @@ fn decide_by(
     }
     if others_fill(found, records, limits.max_pending_flows) {
         skip_first(words, from, records, limits.max_pending_flows, live, skip);
-        return Decision { full: false, all: true };
+        return Decision {
+            full: false,
+            all: true,
+        };
     }
-    Decision { full: false, all: false }
+    Decision {
+        full: false,
+        all: false,
+    }
 }
 
 // Steps 3 to 5, by the records that step 2 leaves and the entries.
@@ -220,8 +239,22 @@ pub fn plan_offer(
     let stay = from + RECORD_WORDS * evicted;
     let left = held - evicted;
     skip_records(words, from, evicted, skip);
-    skip_records(words, from + RECORD_WORDS * held, figures.chance as usize, skip);
-    let decision = decide(words, limits, figures.entries as usize, stay, left, id, clock, skip);
+    skip_records(
+        words,
+        from + RECORD_WORDS * held,
+        figures.chance as usize,
+        skip,
+    );
+    let decision = decide(
+        words,
+        limits,
+        figures.entries as usize,
+        stay,
+        left,
+        id,
+        clock,
+        skip,
+    );
     OfferPlan {
         full: decision.full,
         label: label_for(words, from, held, id),
