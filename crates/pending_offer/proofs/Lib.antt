@@ -7,3 +7,12 @@ pub mod Planned
 pub mod PlanSteps
 pub mod PlanOffers
 pub mod Rooms
+pub mod TooLong
+pub mod Settled
+pub mod Found
+pub mod Left
+pub mod Outcomes
+pub mod Labels
+pub mod Accepted
+pub mod Accepts
+pub mod Refused
