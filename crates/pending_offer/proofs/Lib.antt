@@ -7,6 +7,7 @@ pub mod Planned
 pub mod PlanSteps
 pub mod PlanOffers
 pub mod Rooms
+pub mod Additions
 pub mod TooLong
 pub mod Settled
 pub mod Found
