@@ -6,6 +6,7 @@ pub mod PlanTables
 pub mod Planned
 pub mod PlanSteps
 pub mod PlanOffers
+pub mod HeldBodies
 pub mod Rooms
 pub mod Additions
 pub mod TooLong
