@@ -7,6 +7,7 @@ pub mod Planned
 pub mod PlanSteps
 pub mod PlanOffers
 pub mod HeldBodies
+pub mod Removing
 pub mod Rooms
 pub mod Additions
 pub mod TooLong
