@@ -2,13 +2,14 @@
 use mathlib.Core.Path.{_≡_, refl, sym, ap, _∙_, subst}
 use mathlib.Core.Bool.{Bool, true, false, cond}
 use mathlib.Core.List.{List, [], _∷_, _++_}
-use Prim.Native.Nat.{ℕ, _+_, _-_, _≤_, _<_}
+use Prim.Native.Nat.{ℕ, _+_, _*_, _-_, _≤_, _<_}
 use native.Mathlib.Omega.{arith}
 use lib.Dec.{eqb}
 use lib.ListN.{length, drop}
 use borrow.Author.Tests.{ne-eqb}
 use Rattle.areas.specs.Overwrite.{overwritten}
 use Rattle.config.specs.declared.PendingFlowsConfig.{PendingFlowsConfig}
+use Rattle.config.specs.Limits.{entryWords}
 use Rattle.table.specs.declared.Entry.{Entry}
 use Rattle.table.specs.declared.TemplateRecord.{TemplateRecord}
 use Rattle.table.specs.Layout.{limitsOf, heldCount, entryCount, chanceCount, entriesAt, recordsAt}
@@ -16,7 +17,7 @@ use Rattle.table.specs.Table.{tableOf, entriesFrom, recordsFrom}
 use Rattle.table.specs.Reads.{countSum}
 use Rattle.table.specs.WellFormed.{wellFormed}
 use Rattle.table.proofs.Words.{length-entries}
-use Rattle.table.proofs.Facts.{all-both, LegalRecord}
+use Rattle.table.proofs.Facts.{all-both, LegalRecord, words-say}
 use Rattle.table_entries.specs.Sums.{heldSum}
 use Rattle.cache_model.specs.Bodies.{Body, size, allBodies}
 use Rattle.cache_model.specs.Cache.{number}
@@ -32,7 +33,7 @@ use Rattle.pending_calls.proofs.Removed.{zeros, TiedRows}
 use Rattle.pending_offer.specs.declared.plan.OfferPlan.{OfferPlan}
 use Rattle.pending_offer.specs.Plan.{planTest, Plans}
 use Rattle.pending_offer.specs.Settle.{settledFigures}
-use Rattle.pending_offer.proofs.Settled.{outcome, drops-counted, settled-does}
+use Rattle.pending_offer.proofs.Settled.{sum-small, outcome, drops-counted, settled-does}
 use Rattle.pending_offer.proofs.Left.{held-legal, left-rows, left-placed, left-entries, left-records, left-behind}
 use Rattle.pending_offer.proofs.Left.{staying, bodies-left, templates-left}
 use Rattle.pending_offer.proofs.Outcomes.{leaves, refused-verdict, refused-held}
@@ -62,6 +63,16 @@ module _ (w b : List ℕ) (ok : wellFormed w (length b) ≡ true) (i : ℕ) (x :
       (λ u h e. rw (ne-eqb 1024 (u .label) (λ d. omega (arith, h .label-small))) (sym e)) (tableOf w .held)
       (held-legal w b ok (x .clock) skip plan) (bodies-left w b ok (x .clock) skip plan i (size x) plans x refl))
       ∙ sym (refused-held w b ok i x small plans full))
+
+  pub refused-settles : length w₁ ≡ length w → (entriesAt + entryWords * left .entries ≤ length w₁)
+      × (heldSum 1024 (entriesFrom w₁ entriesAt (left .entries)) ≤ 18446744073709551615)
+  refused-settles long =
+      let legal = words-say w (length b) ok in
+      (
+        omega (arith, done .few-entries, legal .entries-fit, legal .limits-legal .words-enough),
+        sum-small (limitsOf w .«max_total_bytes») (legal .limits-legal .total-small) rows
+            (left-placed w b ok i (x .clock) (size x) 1024 plans done),
+      )
 
   -- how many bodies are held before, h, and how many of them go
   module _ {h : ℕ} (before : h ≡ length (allBodies (cacheOf (tableOf w) b .held))) where

@@ -23,6 +23,7 @@ use Rattle.table.proofs.Words.{length-records, length-entries}
 use Rattle.table.proofs.Facts.{All, all-map, Placed, LegalWords, words-say}
 use Rattle.table_entries.specs.Sums.{heldSum}
 use Rattle.table_entries.proofs.Frames.{entries-above}
+use Rattle.table_entries.proofs.Lengths.{held-all, lens-within}
 use Rattle.table_records.proofs.Frames.{records-above}
 use Rattle.cache_model.specs.Bodies.{Body, Template, size, expired, allBodies}
 use Rattle.cache_model.specs.Cache.{Cache, Outcome, raised}
@@ -34,7 +35,7 @@ use Rattle.pending_flows.specs.declared.header.HeaderFigures.{HeaderFigures}
 use Rattle.pending_flows.specs.Header.{figuresAt, headerOf}
 use Rattle.pending_flows.proofs.Templates.{length-all-bodies}
 use Rattle.pending_flows.proofs.Weights.{counts-sum}
-use Rattle.table_view.proofs.Tied.{Tied}
+use Rattle.table_view.proofs.Tied.{Tied, entries-small}
 use Rattle.table_view.proofs.Totals.{held-sum-lens}
 use Rattle.table_view.proofs.Stored.{Stored, tableWith, legal-limited, stored-view}
 use Rattle.pending_calls.specs.Promises.{Does}
@@ -51,6 +52,16 @@ lens-held {rs} {es} tied =
     (all-map (λ r. r .label < 1024) (λ r. 1024 ≡ r .label → ⊥) (λ r h e. omega arith) rs (tied .labels-small)) es
     (all-map (λ e. hasLabel (e .label) rs ≡ true) (λ e. (e .label ≡ 1024 → ⊥) → hasLabel (e .label) rs ≡ true)
     (λ e known _. known) es (tied .labels-known))
+
+-- and no longer than the bytes that are lent
+pub sum-small : {rs : List TemplateRecord} {es : List Entry} {is : List ℕ} (most : ℕ) → most ≤ 67108864 → Tied rs es is →
+    Placed 0 most es → heldSum 1024 es ≤ 18446744073709551615
+sum-small {rs} {es} most small tied placed =
+    omega (
+      arith,
+      held-all 1024 es (entries-small rs es (tied .labels-small) (tied .labels-known)),
+      lens-within 0 most es (omega arith) placed,
+    )
 
 -- a header over rows that no template is handed out from
 module _ (l : PendingFlowsConfig) (f : HeaderFigures) (w : List ℕ) where

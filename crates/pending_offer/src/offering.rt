@@ -86,3 +86,34 @@ fn remove_planned(
     let test = stay_test(limits, clock, plan);
     remove(words, records_at(limits), records, figures.entries as usize, test, skip, apart, kept)
 }
+
+// Stores a body that is accepted, with what its plan removes.
+fn accept(
+    words: &mut [u64],
+    bytes: &mut [u8],
+    limits: PendingFlowsConfig,
+    figures: HeaderFigures,
+    plan: OfferPlan,
+    skip: &mut [u32; LABELS],
+    id: u64,
+    body: &[u8],
+    clock: u64,
+)
+    requires { ⌜ (wellFormed (now words) (length (now bytes)) ≡ true) × (limits ≡ limitsOf (now words)) ⌝ }
+    requires { ⌜ (figures ≡ figuresAt (now words)) × (length (now body) ≤ limitsOf (now words)
+        .«max_entry_size_bytes») ⌝ }
+    requires { ⌜ (Plans (now words) (now bytes) id (length (now body)) clock (now skip) plan) × ((plan .full ≡ false) ×
+        (id < 65536)) ⌝ }
+    ensures { λ _.
+        ⌜ Does (offered id (bodyOf (now (body .entry)) clock)) (cacheOf (tableOf (now (words .entry)))
+        (now (bytes .entry))) (areasOf (now (words .entry)) (now (bytes .entry))) done
+        (areasOf (now (words .exit)) (now (bytes .exit))) ⌝ }
+{
+    let held = held_bodies(words, bytes, limits, figures);
+    let mut kept = [0u32; LABELS];
+    let left = remove_planned(words, bytes, limits, figures, plan, clock, skip, plan.label, &mut kept);
+    let label = choose_label(plan.label, &kept);
+    add_body(words, bytes, limits, left, label, id, body, clock);
+    let gone = held - (left.entries as u64);
+    settle(words, limits, figures, 1, gone, left.records + 1, left.entries + 1);
+}
