@@ -38,9 +38,10 @@ use Rattle.pending_offer.proofs.Accepted.{body-room, one-more, tied₃,
 
 -- The words w, the bytes b and the limits l′ before the offer of a body under the id i; the plan; the words that the
 -- removal leaves; the label that is chosen.
-pub record Accepting (w b : List ℕ) (l′ : PendingFlowsConfig) (i : ℕ) (body : List ℕ) (clock : ℕ) (skip : List ℕ)
-    (plan : OfferPlan) (w₁ : List ℕ) (left : Removed) (a : ℕ) : Type 0 where
-  pub kept : List ℕ  -- the counts by label that the removal leaves
+pub record Accepting (w b : List ℕ) (l′ : PendingFlowsConfig) (i : ℕ) (body : List ℕ) (clock : ℕ) (plan : OfferPlan)
+    (w₁ : List ℕ) (left : Removed) (a : ℕ) : Type 0 where
+  pub skip : List ℕ  -- how many bodies of each label the plan skips
+  pub kept : List ℕ  -- how many of each label the removal leaves
   pub ok : wellFormed w (length b) ≡ true
   pub limits : l′ ≡ limitsOf w
   pub id : i < 65536
@@ -52,8 +53,8 @@ pub record Accepting (w b : List ℕ) (l′ : PendingFlowsConfig) (i : ℕ) (bod
   pub long : length w₁ ≡ length w
   pub label : a ≡ chosenLabel (plan .label) kept
 
-module _ {w b : List ℕ} {l′ : PendingFlowsConfig} {i : ℕ} {body : List ℕ} {clock : ℕ} {skip : List ℕ} {plan : OfferPlan}
-    {w₁ : List ℕ} {left : Removed} {a : ℕ} (known : Accepting w b l′ i body clock skip plan w₁ left a) where
+module _ {w b : List ℕ} {l′ : PendingFlowsConfig} {i : ℕ} {body : List ℕ} {clock : ℕ} {plan : OfferPlan}
+    {w₁ : List ℕ} {left : Removed} {a : ℕ} (known : Accepting w b l′ i body clock plan w₁ left a) where
   legal : LegalWords w (length b)
   legal = words-say w (length b) (known .ok)
 

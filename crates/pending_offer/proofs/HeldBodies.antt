@@ -1,5 +1,5 @@
 -- How many bodies are held, by the header and the handed-out record. Assumes nothing.
-use mathlib.Core.Path.{_≡_, sym, ap, _∙_}
+use mathlib.Core.Path.{_≡_, refl, sym, ap, _∙_}
 use mathlib.Core.Bool.{true}
 use mathlib.Core.List.{List}
 use Prim.Native.Nat.{ℕ, _+_, _*_, _-_, _^_, _≤_, _<_}
@@ -29,6 +29,9 @@ module _ (w b : List ℕ) (ok : wellFormed w (length b) ≡ true) (f : HeaderFig
       f .entries - h ≡ length (allBodies (cacheOf (tableOf w) b .held))
   unfolding figures
   bodies-left h e = rw is (ap (λ (g : Figures). g .bodies) (figures-read w b ok h e))
+
+  pub held-most : length (allBodies (cacheOf (tableOf w) b .held)) ≤ f .entries
+  held-most = omega (arith, bodies-left (countSum (tableOf w .handed)) refl)
 
   pub held-all : f .chance ≡ 0 → f .entries ≡ length (allBodies (cacheOf (tableOf w) b .held))
   held-all none =

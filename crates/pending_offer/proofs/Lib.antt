@@ -19,3 +19,4 @@ pub mod Labels
 pub mod Accepted
 pub mod Accepts
 pub mod Refused
+pub mod Offered

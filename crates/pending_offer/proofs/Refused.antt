@@ -2,7 +2,7 @@
 use mathlib.Core.Path.{_≡_, refl, sym, ap, _∙_, subst}
 use mathlib.Core.Bool.{Bool, true, false, cond}
 use mathlib.Core.List.{List, [], _∷_, _++_}
-use Prim.Native.Nat.{ℕ, _+_, _*_, _-_, _≤_, _<_}
+use Prim.Native.Nat.{ℕ, _+_, _*_, _-_, _^_, _≤_, _<_}
 use native.Mathlib.Omega.{arith}
 use lib.Dec.{eqb}
 use lib.ListN.{length, drop}
@@ -17,7 +17,7 @@ use Rattle.table.specs.Table.{tableOf, entriesFrom, recordsFrom}
 use Rattle.table.specs.Reads.{countSum}
 use Rattle.table.specs.WellFormed.{wellFormed}
 use Rattle.table.proofs.Words.{length-entries}
-use Rattle.table.proofs.Facts.{all-both, LegalRecord, words-say}
+use Rattle.table.proofs.Facts.{all-both, Placed, LegalRecord, LegalWords, words-say}
 use Rattle.table_entries.specs.Sums.{heldSum}
 use Rattle.cache_model.specs.Bodies.{Body, size, allBodies}
 use Rattle.cache_model.specs.Cache.{number}
@@ -31,68 +31,109 @@ use Rattle.pending_calls.specs.Promises.{Does}
 use Rattle.pending_calls.specs.Removal.{Removes}
 use Rattle.pending_calls.proofs.Removed.{zeros, TiedRows}
 use Rattle.pending_offer.specs.declared.plan.OfferPlan.{OfferPlan}
+use Rattle.pending_offer.specs.Promises.{bodyOf}
 use Rattle.pending_offer.specs.Plan.{planTest, Plans}
 use Rattle.pending_offer.specs.Settle.{settledFigures}
+use Rattle.pending_offer.proofs.HeldBodies.{held-most}
 use Rattle.pending_offer.proofs.Settled.{sum-small, outcome, drops-counted, settled-does}
 use Rattle.pending_offer.proofs.Left.{held-legal, left-rows, left-placed, left-entries, left-records, left-behind}
 use Rattle.pending_offer.proofs.Left.{staying, bodies-left, templates-left}
 use Rattle.pending_offer.proofs.Outcomes.{leaves, refused-verdict, refused-held}
 
-module _ (w b : List ℕ) (ok : wellFormed w (length b) ≡ true) (i : ℕ) (x : Body)
-    (small : size x ≤ limitsOf w .«max_entry_size_bytes») {skip : List ℕ} {plan : OfferPlan}
-    (plans : Plans w b i (size x) (x .clock) skip plan) (full : plan .full ≡ true) {w₁ kept₁ : List ℕ} {left : Removed}
-    (done : Removes (planTest (limitsOf w) (x .clock) plan) (recordsAt (limitsOf w)) (heldCount w + chanceCount w)
-    (entryCount w) 1024 skip zeros w w₁ kept₁ left) where
-  rows : TiedRows (recordsAt (limitsOf w)) (left .records) (left .entries) w₁
-  rows = no-label-tied (left-rows w b ok i (x .clock) (size x) 1024 plans done)
+-- The words w, the bytes b and the limits l′ before the offer of a body under the id i; the plan; the words that the
+-- removal leaves.
+pub record Refusing (w b : List ℕ) (l′ : PendingFlowsConfig) (i : ℕ) (body : List ℕ) (clock : ℕ) (plan : OfferPlan)
+    (w₁ : List ℕ) (left : Removed) : Type 0 where
+  pub skip : List ℕ  -- how many bodies of each label the plan skips
+  pub kept : List ℕ  -- how many of each label the removal leaves
+  pub ok : wellFormed w (length b) ≡ true
+  pub limits : l′ ≡ limitsOf w
+  pub small : length body ≤ limitsOf w .«max_entry_size_bytes»
+  pub plans : Plans w b i (length body) clock skip plan
+  pub full : plan .full ≡ true
+  pub removed : Removes (planTest (limitsOf w) clock plan) (recordsAt (limitsOf w)) (heldCount w + chanceCount w)
+      (entryCount w) 1024 skip zeros w w₁ kept left
+  pub long : length w₁ ≡ length w
+
+module _ {w b : List ℕ} {l′ : PendingFlowsConfig} {i : ℕ} {body : List ℕ} {clock : ℕ} {plan : OfferPlan}
+    {w₁ : List ℕ} {left : Removed} (known : Refusing w b l′ i body clock plan w₁ left) where
+  legal : LegalWords w (length b)
+  legal = words-say w (length b) (known .ok)
+
+  abbrev l : PendingFlowsConfig
+  l = limitsOf w
+
+  abbrev x : Body
+  x = bodyOf body clock
+
+  rows : TiedRows (recordsAt l) (left .records) (left .entries) w₁
+  rows = no-label-tied (left-rows w b (known .ok) i clock (length body) 1024 (known .plans) (known .removed))
+
+  placed : Placed 0 (l .«max_total_bytes») (entriesFrom w₁ entriesAt (left .entries))
+  placed = left-placed w b (known .ok) i clock (length body) 1024 (known .plans) (known .removed)
+
+  verdict : outcome w b (known .ok) i x (known .small) .verdict ≡ refused 20
+  verdict = refused-verdict w b (known .ok) i x (known .small) (known .plans) (known .full)
 
   -- no label is apart
-  held-left : templatesAt b (entriesFrom w₁ entriesAt (left .entries))
-      (recordsFrom w₁ (recordsAt (limitsOf w)) (left .records)) ≡ outcome w b ok i x small .left .held
+  held-left : templatesAt b (entriesFrom w₁ entriesAt (left .entries)) (recordsFrom w₁ (recordsAt l) (left .records))
+      ≡ outcome w b (known .ok) i x (known .small) .left .held
   held-left =
       let es = tableOf w .entries in
-      let f = leaves w b ok i x small in
-      let Legal = LegalRecord (limitsOf w) es in
+      let f = leaves w b (known .ok) i x (known .small) in
+      let Legal = LegalRecord l es in
       rw (
-        left-entries w b ok i (x .clock) (size x) 1024 plans done,
-        left-records w b ok i (x .clock) (size x) 1024 plans done,
+        left-entries w b (known .ok) i clock (length body) 1024 (known .plans) (known .removed),
+        left-records w b (known .ok) i clock (length body) 1024 (known .plans) (known .removed),
       )
-      (templates-left w b ok (x .clock) skip plan i (size x) plans 1024 f
+      (templates-left w b (known .ok) clock (known .skip) plan i (length body) (known .plans) 1024 f
       (all-both Legal _ (λ u. f (u .key) (bodiesAt b (u .label) es)
-      ≡ cond (eqb 1024 (u .label)) [] (bodiesAt b (u .label) (staying w (x .clock) skip plan)))
+      ≡ cond (eqb 1024 (u .label)) [] (bodiesAt b (u .label) (staying w clock (known .skip) plan)))
       (λ u h e. rw (ne-eqb 1024 (u .label) (λ d. omega (arith, h .label-small))) (sym e)) (tableOf w .held)
-      (held-legal w b ok (x .clock) skip plan) (bodies-left w b ok (x .clock) skip plan i (size x) plans x refl))
-      ∙ sym (refused-held w b ok i x small plans full))
+      (held-legal w b (known .ok) clock (known .skip) plan)
+      (bodies-left w b (known .ok) clock (known .skip) plan i (length body) (known .plans) x refl))
+      ∙ sym (refused-held w b (known .ok) i x (known .small) (known .plans) (known .full)))
 
-  pub refused-settles : length w₁ ≡ length w → (entriesAt + entryWords * left .entries ≤ length w₁)
+  pub refused-settles : (entriesAt + entryWords * left .entries ≤ length w₁)
       × (heldSum 1024 (entriesFrom w₁ entriesAt (left .entries)) ≤ 18446744073709551615)
-  refused-settles long =
-      let legal = words-say w (length b) ok in
-      (
-        omega (arith, done .few-entries, legal .entries-fit, legal .limits-legal .words-enough),
-        sum-small (limitsOf w .«max_total_bytes») (legal .limits-legal .total-small) rows
-            (left-placed w b ok i (x .clock) (size x) 1024 plans done),
-      )
+  refused-settles = (
+    omega (
+      arith,
+      known .removed .few-entries,
+      known .long,
+      legal .entries-fit,
+      legal .limits-legal .words-enough,
+    ),
+    sum-small (l .«max_total_bytes») (legal .limits-legal .total-small) rows placed,
+  )
 
   -- how many bodies are held before, h, and how many of them go
   module _ {h : ℕ} (before : h ≡ length (allBodies (cacheOf (tableOf w) b .held))) where
-    counted : length (outcome w b ok i x small .left .removed) + left .entries ≡ h
+    counted : length (outcome w b (known .ok) i x (known .small) .left .removed) + left .entries ≡ h
     counted =
         omega (
           arith,
-          drops-counted w b ok i x small (refused-verdict w b ok i x small plans full) b rows held-left,
+          drops-counted w b (known .ok) i x (known .small) verdict b rows held-left,
           length-entries w₁ entriesAt (left .entries),
         )
 
     pub refused-fewer : left .entries ≤ h
     refused-fewer = omega (arith, counted)
 
-    pub refused-does : {l′ : PendingFlowsConfig} {f : HeaderFigures} {w′ : List ℕ} → l′ ≡ limitsOf w →
-        f ≡ figuresAt w → length w₁ ≡ length w →
+    pub drops-fit : h - left .entries + 1 < 2 ^ 64
+    drops-fit =
+        omega (
+          arith,
+          held-most w b (known .ok) (figuresAt w) refl,
+          legal .entries-fit,
+          legal .limits-legal .bodies-few,
+        )
+
+    pub refused-does : {f : HeaderFigures} {w′ : List ℕ} → f ≡ figuresAt w →
         w′ ≡ overwritten w₁ (headerOf l′ (settledFigures f 0 (h - left .entries + 1)
         (heldSum 1024 (entriesFrom w₁ entriesAt (left .entries))) (left .records) (left .entries))) →
         Does (offered i x) (cacheOf (tableOf w) b) (areasOf w b) (number 20) (areasOf w′ b)
-    refused-does e g long written =
-        settled-does w b ok i x small (refused-verdict w b ok i x small plans full) w₁ b (left .records)
-        (left .entries) (h - left .entries + 1) rows (left-placed w b ok i (x .clock) (size x) 1024 plans done) held-left
-        (omega (arith, counted)) refl long e g written refl (left-behind w b ok i (x .clock) (size x) 1024 plans done)
+    refused-does figures written =
+        settled-does w b (known .ok) i x (known .small) verdict w₁ b (left .records) (left .entries)
+        (h - left .entries + 1) rows placed held-left (omega (arith, counted)) refl (known .long) (known .limits) figures
+        written refl (left-behind w b (known .ok) i clock (length body) 1024 (known .plans) (known .removed))

@@ -6,3 +6,4 @@ mod storing;
 
 pub use offering::OfferAnswer;
 pub use offering::OfferRefusal;
+pub use offering::cache;

@@ -117,3 +117,55 @@ fn accept(
     let gone = held - (left.entries as u64);
     settle(words, limits, figures, 1, gone, left.records + 1, left.entries + 1);
 }
+
+// Offers a body that is not too long to a well-formed cache.
+fn offer_body(words: &mut [u64], bytes: &mut [u8], id: u64, body: &[u8], clock: u64) -> OfferAnswer
+    requires { ⌜ (wellFormed (now words) (length (now bytes)) ≡ true) × (id < 65536) ⌝ }
+    requires { ⌜ length (now body) ≤ limitsOf (now words) .«max_entry_size_bytes» ⌝ }
+    ensures { λ r.
+        ⌜ DoesOffer id (now (body .entry)) clock (cacheOf (tableOf (now (words .entry))) (now (bytes .entry)))
+        (areasOf (now (words .entry)) (now (bytes .entry))) r (areasOf (now (words .exit)) (now (bytes .exit))) ⌝ }
+{
+    let limits = limits_at(words);
+    let figures = figures_at(words);
+    let mut skip = [0u32; LABELS];
+    let plan = plan_offer(words, bytes, limits, figures, id, body.len(), clock, &mut skip);
+    if plan.full {
+        let held = held_bodies(words, bytes, limits, figures);
+        let mut kept = [0u32; LABELS];
+        // no label apart: the template is not promoted
+        let none = LABELS as u64;
+        let left = remove_planned(words, bytes, limits, figures, plan, clock, &mut skip, none, &mut kept);
+        let gone = held - (left.entries as u64);
+        settle(words, limits, figures, 0, gone + 1, left.records, left.entries);
+        return OfferAnswer::Refused(OfferRefusal::TemplateFull);
+    }
+    accept(words, bytes, limits, figures, plan, &mut skip, id, body, clock);
+    OfferAnswer::Cached
+}
+
+// Offers a body to a well-formed cache.
+fn offer(words: &mut [u64], bytes: &mut [u8], id: u64, body: &[u8], clock: u64) -> OfferAnswer
+    requires { ⌜ (wellFormed (now words) (length (now bytes)) ≡ true) × (id < 65536) ⌝ }
+    ensures { λ r.
+        ⌜ DoesOffer id (now (body .entry)) clock (cacheOf (tableOf (now (words .entry))) (now (bytes .entry)))
+        (areasOf (now (words .entry)) (now (bytes .entry))) r (areasOf (now (words .exit)) (now (bytes .exit))) ⌝ }
+{
+    if limits_at(words).max_entry_size_bytes < body.len() {
+        count_drop(words);
+        return OfferAnswer::Refused(OfferRefusal::TooLong);
+    }
+    offer_body(words, bytes, id, body, clock)
+}
+
+// Offers a body: it is cached, or turned down. Either way other bodies may go.
+pub fn cache(words: &mut [u64], bytes: &mut [u8], id: u16, body: &[u8], clock: u64) -> OfferAnswer
+    ensures { λ r.
+        ⌜ Offers id (now (body .entry)) clock (areasOf (now (words .entry)) (now (bytes .entry))) r
+        (areasOf (now (words .exit)) (now (bytes .exit))) ⌝ }
+{
+    if table::well_formed(words, bytes.len()) {
+        return offer(words, bytes, id as u64, body, clock);
+    }
+    OfferAnswer::Refused(OfferRefusal::Damaged)
+}

@@ -31,11 +31,12 @@ held c = removed c .before .before .before .before .before
 -- what is known once the label is chosen
 known : (c : tie.After-choose-label) →
     Accepting (start c .args .words .now) (start c .args .bytes .now) (start c .args .limits) (start c .args .id)
-    (start c .args .body .now) (start c .args .clock) (start c .args .skip .now) (start c .args .plan)
+    (start c .args .body .now) (start c .args .clock) (start c .args .plan)
     (removed c .remove-planned .last .0) (removed c .remove-planned .result) (c .choose-label .result)
 known c =
     let pre = start c .pre in
     record {
+      skip = _;
       kept = _;
       ok = pre .0 .0;
       limits = pre .0 .1;
