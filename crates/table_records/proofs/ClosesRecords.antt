@@ -102,7 +102,11 @@ module _ {from records : ℕ} {kept w₀ ps₀ w ps : List ℕ} {remain passed l
       first = records-first w p left more r is
 
       noted-next : (at : ℕ) → take (passed + 1) (set ps passed at) ≡ take passed ps ++ (at ∷ [])
-      noted-next at = rw (add-one, take-suc-set ps passed at (omega (arith, inv .places-fit, inv .same-places, inv .counted)))
+      noted-next at =
+          rw (
+            add-one,
+            take-suc-set ps passed at (omega (arith, inv .places-fit, inv .same-places, inv .counted)),
+          )
 
       pub record-closed : n ≤ 0 →
           Closing from records kept w₀ ps₀ w (set ps passed nowhere) remain (passed + 1) (left - 1) (p + recordWords)
@@ -154,8 +158,8 @@ module _ {from records : ℕ} {kept w₀ ps₀ w ps : List ℕ} {remain passed l
             rw (records-one-more w′ from remain, before, here, same-rest, append-assoc, ← e)
             (inv .kept-records)
 
-        pub record-moved : Closing from records kept w₀ ps₀ w′ (set ps passed remain) (remain + 1) (passed + 1) (left - 1)
-            (p + recordWords)
+        pub record-moved : Closing from records kept w₀ ps₀ w′ (set ps passed remain) (remain + 1) (passed + 1)
+            (left - 1) (p + recordWords)
         record-moved = record {
           reached = omega (arith, inv .reached);
           counted = omega (arith, inv .counted);

@@ -4,36 +4,20 @@ use mathlib.Core.Bool.{Bool, true, false, cond}
 use mathlib.Core.List.{List, [], _∷_, _++_}
 use Prim.Native.Nat.{ℕ, _+_, _≤_, _<_}
 use native.Mathlib.Omega.{arith}
-use lib.Dec.{leb, ltb}
-use lib.ListN.{length}
-use borrow.Author.Tests.{lt-ltb, le-ltb, leb-true, ltb-true}
+use lib.Dec.{ltb}
+use borrow.Author.Tests.{lt-ltb, le-ltb}
 use Rattle.table.specs.declared.TemplateRecord.{TemplateRecord}
 use Rattle.table.specs.WellFormed.{keyAt, indexRises}
-use Rattle.table.proofs.Tests.{and-left, and-right}
 use Rattle.table_records.specs.Add.{inserted}
+use Rattle.table_records.proofs.Rises.{rises-says}
 
 module _ (rs : List TemplateRecord) where
-  pub record Rises (low i : ℕ) (is : List ℕ) : Type 0 where
-    pub known : i < length rs
-    pub above : low ≤ keyAt rs i
-    pub rest : indexRises rs (keyAt rs i + 1) is ≡ true
-
-  pub rises-says : (low i : ℕ) (is : List ℕ) → indexRises rs low (i ∷ is) ≡ true → Rises low i is
-  unfolding indexRises
-  rises-says low i is t =
-      let t′ = and-right (ltb i (length rs)) _ t in
-      record {
-        known = ltb-true _ _ (and-left (ltb i (length rs)) _ t);
-        above = leb-true _ _ (and-left (leb low (keyAt rs i)) _ t′);
-        rest = and-right (leb low (keyAt rs i)) _ t′;
-      }
-
   -- a later key is above
   later-above : (low : ℕ) (front : List ℕ) (i : ℕ) (back : List ℕ) → indexRises rs low (front ++ (i ∷ back)) ≡ true →
       low ≤ keyAt rs i
-  later-above low [] i back t = rises-says low i back t .above
+  later-above low [] i back t = rises-says rs low i back t .above
   later-above low (j ∷ front) i back t =
-      let first = rises-says low j (front ++ (i ∷ back)) t in
+      let first = rises-says rs low j (front ++ (i ∷ back)) t in
       omega (arith, first .above, later-above (keyAt rs j + 1) front i back (first .rest))
 
   module _ (key k : ℕ) where
@@ -57,7 +41,7 @@ module _ (rs : List TemplateRecord) where
     unfolding inserted
     insert-behind low [] i back t h = rw (le-ltb key (keyAt rs i) h)
     insert-behind low (j ∷ front) i back t h =
-        let rest = rises-says low j (front ++ (i ∷ back)) t .rest in
+        let rest = rises-says rs low j (front ++ (i ∷ back)) t .rest in
         let below : keyAt rs j ≤ key = omega (arith, later-above (keyAt rs j + 1) front i back rest) in
         rw (le-ltb key (keyAt rs j) below)
         (ap (λ (l : List ℕ). j ∷ l) (insert-behind (keyAt rs j + 1) front i back rest h))

@@ -4,6 +4,13 @@ pub mod ClosesRecords
 pub mod ClosesIndex
 pub mod Closes
 pub mod Chosen
+pub mod Rises
 pub mod Inserted
 pub mod OpensIndex
 pub mod Adds
+pub mod Closed
+pub mod AddedIndex
+pub mod Skips
+pub mod FreeLabels
+pub mod Weights
+pub mod ClosedIndex

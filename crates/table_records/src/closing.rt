@@ -84,15 +84,15 @@ fn close_index(words: &mut [u64], from: usize, records: usize, positions: &[u32]
         ⌜ ClosesIndex from records (now (positions .entry)) (now (words .entry)) (now (words .exit)) ⌝ }
 {
     let mut remain: usize = 0;
-    let mut left = records;
+    let mut keys_left = records;
     let mut p = from;
-    while left > 0 {
+    while keys_left > 0 {
         let position = position_of(positions, words[p + INDEX]);
         if position < NOWHERE {
             words[from + RECORD_WORDS * remain + INDEX] = position as u64;
             remain += 1;
         }
-        left -= 1;
+        keys_left -= 1;
         p += RECORD_WORDS;
     }
 }

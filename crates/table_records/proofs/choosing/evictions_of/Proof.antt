@@ -4,7 +4,8 @@ use Rattle.table_records.proofs.choosing.evictions_of.Statement.{statem
 use Rattle.table_records.proofs.choosing.evictions_of.Tie as tie
 
 abbrev Inv-loop : tie.InvT-loop
-Inv-loop words from records room total sizes evicted₀ held₀ left₀ p₀ evicted held left p = Evicted words room sizes total from records evicted held p left
+Inv-loop words from records room total sizes evicted₀ held₀ left₀ p₀ evicted held left p =
+    Evicted words room sizes total from records evicted held p left
 
 abbrev μ-loop : tie.MeasureT-loop
 μ-loop words from records room total sizes evicted₀ held₀ left₀ p₀ evicted held left p = left

@@ -6,7 +6,8 @@ use Rattle.table_records.proofs.choosing.live_records.Statement.{statem
 use Rattle.table_records.proofs.choosing.live_records.Tie as tie
 
 abbrev Inv-loop : tie.InvT-loop
-Inv-loop words from records live counted₀ left₀ p₀ counted left p = RecordsCounted words live from records counted p left
+Inv-loop words from records live counted₀ left₀ p₀ counted left p =
+    RecordsCounted words live from records counted p left
 
 abbrev μ-loop : tie.MeasureT-loop
 μ-loop words from records live counted₀ left₀ p₀ counted left p = left

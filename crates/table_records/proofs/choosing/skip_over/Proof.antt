@@ -4,7 +4,8 @@ use Rattle.table_records.proofs.choosing.skip_over.Statement.{statement
 use Rattle.table_records.proofs.choosing.skip_over.Tie as tie
 
 abbrev Inv-loop : tie.InvT-loop
-Inv-loop words from records cap counts skip₀ left₀ p₀ skip left p = OverSkipped words cap counts skip₀ skip from records p left
+Inv-loop words from records cap counts skip₀ left₀ p₀ skip left p =
+    OverSkipped words cap counts skip₀ skip from records p left
 
 abbrev μ-loop : tie.MeasureT-loop
 μ-loop words from records cap counts skip₀ left₀ p₀ skip left p = left

@@ -5,10 +5,11 @@ use Rattle.table_records.proofs.closing.close_index.Statement.{statemen
 use Rattle.table_records.proofs.closing.close_index.Tie as tie
 
 abbrev Inv-loop : tie.InvT-loop
-Inv-loop words₀ from records positions remain₀ left₀ p₀ words remain left p = Remapping from records positions words₀ words remain left p
+Inv-loop words₀ from records positions remain₀ keys-left₀ p₀ words remain keys-left p =
+    Remapping from records positions words₀ words remain keys-left p
 
 abbrev μ-loop : tie.MeasureT-loop
-μ-loop words₀ from records positions remain₀ left₀ p₀ words remain left p = left
+μ-loop words₀ from records positions remain₀ keys-left₀ p₀ words remain keys-left p = keys-left
 
 loop-holds : tie.Need-loop-holds Inv-loop μ-loop
 loop-holds c = none-remapped _ _ _ _
@@ -46,8 +47,8 @@ slice-write-words c = search needs
 add-remain : tie.Need-add-remain Inv-loop μ-loop
 add-remain c = search needs
 
-sub-left : tie.Need-sub-left Inv-loop μ-loop
-sub-left c = search needs
+sub-keys-left : tie.Need-sub-keys-left Inv-loop μ-loop
+sub-keys-left c = search needs
 
 add-p : tie.Need-add-p Inv-loop μ-loop
 add-p c = search needs
@@ -84,7 +85,7 @@ close-index-spec =
     mul-words-2
     slice-write-words
     add-remain
-    sub-left
+    sub-keys-left
     add-p
     loop-less
     loop-again
