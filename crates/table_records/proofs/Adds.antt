@@ -3,7 +3,7 @@ use mathlib.Core.Path.{_≡_, refl, ap, _∙_}
 use mathlib.Core.List.{List, [], _∷_, _++_}
 use Prim.Native.Nat.{ℕ, _+_, _*_, _-_, _≤_}
 use native.Mathlib.Omega.{arith}
-use lib.ListN.{length, set, take, drop, length-set}
+use lib.ListN.{length, set, length-set}
 use lib.Seq.{take-set-le, drop-set-lt}
 use Rattle.config.specs.Limits.{recordWords}
 use Rattle.table.specs.declared.TemplateRecord.{TemplateRecord}

@@ -1,13 +1,12 @@
 -- The two passes of closing, one after the other. Assumes nothing.
-use mathlib.Core.Path.{_≡_, sym, ap, _∙_}
+use mathlib.Core.Path.{_≡_, sym, _∙_}
 use mathlib.Core.List.{List}
 use Prim.Native.Nat.{ℕ, _≤_}
 use native.Mathlib.Omega.{arith}
 use lib.ListN.{length, take}
 use lib.Seq.{length-take-le}
-use Rattle.table.specs.Layout.{word}
-use Rattle.table.specs.Table.{recordsFrom, indexFrom}
-use Rattle.table_records.specs.Close.{positions, remapped, Closes}
+use Rattle.table.specs.Table.{indexFrom}
+use Rattle.table_records.specs.Close.{Closes}
 use Rattle.table_records.specs.Passes.{ClosesRecords, ClosesIndex}
 use Rattle.table_records.proofs.Frames.{index-same}
 

@@ -2,9 +2,8 @@
 use mathlib.Core.Path.{_≡_, refl, sym, ap, _∙_}
 use mathlib.Core.List.{List, [], _∷_, _++_}
 use Prim.Native.Nat.{ℕ, zero, suc, _+_, _*_, _-_, _≤_, _<_}
-use native.Mathlib.Numerals.{add-one}
 use native.Mathlib.Omega.{arith}
-use lib.ListN.{length, getD, set, take, drop, length-set}
+use lib.ListN.{length, set, take, drop, length-set}
 use lib.Seq.{getD-set-same, getD-set-other, take-set-le, drop-set-lt, getD-take, getD-drop, take-take, drop-drop}
 use Rattle.config.specs.Limits.{recordWords}
 use Rattle.table.specs.declared.TemplateRecord.{TemplateRecord}

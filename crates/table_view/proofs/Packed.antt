@@ -10,35 +10,16 @@ use borrow.Author.Tests.{leb-true, leb-false}
 use Rattle.areas.specs.Overwrite.{moved}
 use Rattle.table.specs.declared.Entry.{Entry}
 use Rattle.table.specs.Table.{tally}
+use Rattle.table_entries.specs.Pack.{packedEntries, packedBytes, packedEnd}
+use Rattle.table_entries.proofs.Lengths.{lensSum}
+use Rattle.table_entries.proofs.Packed.{placedAt}
 use Rattle.table.proofs.Facts.{All, Placed}
 use Rattle.pending_flows.specs.View.{bodiesAt}
 use Rattle.table_view.proofs.Frames.{read-below, drop-further, moved-long, moved-below, moved-there}
 use Rattle.table_view.proofs.Frames.{moved-above, bodies-above}
 
--- an entry whose body stands at a place
-abbrev pub placedAt : ℕ → Entry → Entry
-placedAt at e = record { label = e .label; place = at; len = e .len; clock = e .clock }
-
--- the entries, the bytes, and the end of the last body, where the first body goes to `at`
-unfoldable pub packedEntries : ℕ → List Entry → List Entry
-packedEntries at [] = []
-packedEntries at (e ∷ es) = placedAt at e ∷ packedEntries (at + e .len) es
-
-unfoldable pub packedBytes : ℕ → List Entry → List ℕ → List ℕ
-packedBytes at [] b = b
-packedBytes at (e ∷ es) b = packedBytes (at + e .len) es (moved (e .place) at (e .len) b)
-
-unfoldable pub packedEnd : ℕ → List Entry → ℕ
-packedEnd at [] = at
-packedEnd at (e ∷ es) = packedEnd (at + e .len) es
-
--- the lengths of all bodies
-unfoldable pub allLens : List Entry → ℕ
-allLens [] = 0
-allLens (e ∷ es) = e .len + allLens es
-
-pub packed-end : (at : ℕ) (es : List Entry) → packedEnd at es ≡ at + allLens es
-unfolding packedEnd allLens
+pub packed-end : (at : ℕ) (es : List Entry) → packedEnd at es ≡ at + lensSum es
+unfolding packedEnd lensSum
 packed-end at [] = omega arith
 packed-end at (e ∷ es) = omega (arith, packed-end (at + e .len) es)
 

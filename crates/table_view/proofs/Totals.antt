@@ -19,7 +19,7 @@ use Rattle.cache_model.specs.Bodies.{Body, size, sumBodies, sumTemplates}
 use Rattle.pending_flows.specs.View.{bodyAt, bodiesAt, templatesAt}
 use Rattle.pending_flows.proofs.Weights.{weigh, weighAll, weighOwned, weights-agree}
 use Rattle.table_view.proofs.Swept.{Within, body-size}
-use Rattle.table_view.proofs.Packed.{allLens}
+use Rattle.table_entries.proofs.Lengths.{lensSum}
 
 -- whatever a body weighs: the bodies of templates, template by template, and entry by entry
 module _ (b : List ℕ) (w : Body → ℕ) where
@@ -67,8 +67,8 @@ unfolding heldLen
 other-adds out e l = rw (ne-eqb (e .label) out l)
 
 -- where no entry is of the label out, all lengths
-pub held-sum-all : (out : ℕ) (es : List Entry) → All (λ e. e .label ≢ out) es → heldSum out es ≡ allLens es
-unfolding heldSum allLens
+pub held-sum-all : (out : ℕ) (es : List Entry) → All (λ e. e .label ≢ out) es → heldSum out es ≡ lensSum es
+unfolding heldSum lensSum
 held-sum-all out [] h = refl
 held-sum-all out (e ∷ es) h = omega (arith, other-adds out e (h .0), held-sum-all out es (h .1))
 
