@@ -1,11 +1,14 @@
 //! Runs the original Rust text beside what was ported from it. README.md has the commands.
 
 mod budget;
+mod checks;
+mod clock;
 mod framing;
 mod numbers;
 #[cfg(feature = "live")]
 mod port;
 mod random;
+mod template_store;
 mod variable_versions;
 
 use std::process::ExitCode;
