@@ -1,6 +1,7 @@
 //! Runs the original Rust text beside what was ported from it. README.md has the commands.
 
 mod budget;
+mod cache;
 mod checks;
 mod clock;
 mod framing;
