@@ -4,7 +4,7 @@ use mathlib.Core.Path.{_≡_, refl, sym, ap, _∙_, subst}
 use mathlib.Core.Logic.{_≢_}
 use mathlib.Core.Bool.{Bool, true, false, _||_, cond}
 use mathlib.Core.List.{List, [], _∷_, _++_, append-nil}
-use Prim.Native.Nat.{ℕ, suc, _+_, _*_, _-_, _≤_, _<_}
+use Prim.Native.Nat.{ℕ, _+_, _-_, _≤_, _<_}
 use native.Mathlib.Omega.{arith}
 use lib.Dec.{eqb}
 use lib.ListN.{length, drop, length-append, length-map}
@@ -18,7 +18,7 @@ use Rattle.table.specs.Layout.{limitsOf, heldCount, entryCount, chanceCount, en
 use Rattle.table.specs.Table.{Table, tableOf, entriesFrom, recordsFrom, indexFrom, hasLabel, tally, sumLens}
 use Rattle.table.specs.WellFormed.{wellFormed}
 use Rattle.table.proofs.Words.{length-records, length-entries}
-use Rattle.table.proofs.Facts.{All, all-map, all-both, Placed, LegalWords, words-say}
+use Rattle.table.proofs.Facts.{all-map, Placed, LegalWords, words-say}
 use Rattle.table.proofs.Labels.{absent-says}
 use Rattle.table_entries.specs.Sums.{heldSum}
 use Rattle.table_entries.specs.Pack.{packedEnd}
@@ -48,12 +48,12 @@ use Rattle.pending_calls.proofs.Removed.{zeros}
 use Rattle.pending_offer.specs.declared.plan.OfferPlan.{OfferPlan}
 use Rattle.pending_offer.specs.Promises.{bodyOf}
 use Rattle.pending_offer.specs.Plan.{planTest, Plans}
-use Rattle.pending_offer.specs.Room.{roomEntries, roomBytes, roomPlace, newEntry, RoomFor}
+use Rattle.pending_offer.specs.Room.{roomEntries, roomBytes, roomPlace, newEntry}
 use Rattle.pending_offer.proofs.Rooms.{Room, room-made}
 use Rattle.pending_offer.proofs.Settled.{outcome, settled-limited}
 use Rattle.pending_offer.proofs.Left.{left-placed}
 use Rattle.pending_offer.proofs.Outcomes.{leaves, others, accepted-held}
-use Rattle.pending_offer.proofs.Labels.{Chosen, others-left, fresh-left, few-left}
+use Rattle.pending_offer.proofs.Labels.{Chosen, others-left, fresh-left}
 
 -- an entry whose label is a record's, or the one apart, has a record once the label has one
 known-more : (a : ℕ) (rs : List TemplateRecord) (r : TemplateRecord) → r .label ≡ a → (e : Entry) →

@@ -1,26 +1,25 @@
 -- A body put behind the others, from its steps: the room, the entry and its bytes, the record. Assumes nothing.
 use mathlib.Core.Path.{_≡_, ap, _∙_, subst}
-use mathlib.Core.Bool.{true, cond}
-use mathlib.Core.List.{List, [], _∷_, _++_}
+use mathlib.Core.Bool.{true}
+use mathlib.Core.List.{List}
 use Prim.Native.Nat.{ℕ, _+_, _*_, _≤_, _<_}
 use native.Mathlib.Omega.{arith}
-use lib.ListN.{length, drop}
+use lib.ListN.{length}
 use borrow.Author.Tests.{lt-ltb, le-ltb}
 use Rattle.config.specs.declared.PendingFlowsConfig.{PendingFlowsConfig}
 use Rattle.config.specs.Limits.{recordWords, entryWords}
-use Rattle.table.specs.declared.Entry.{Entry}
 use Rattle.table.specs.declared.TemplateRecord.{TemplateRecord}
 use Rattle.table.specs.Layout.{entriesAt, recordsAt}
 use Rattle.table.specs.Table.{entriesFrom, recordsFrom, indexFrom}
 use Rattle.table.specs.WellFormed.{indexRises}
 use Rattle.table.proofs.Facts.{places-say}
 use Rattle.table_entries.proofs.Frames.{entries-below}
-use Rattle.table_records.specs.Add.{inserted, Adds}
+use Rattle.table_records.specs.Add.{Adds}
 use Rattle.table_records.specs.Choose.{freeLabel}
 use Rattle.table_records.proofs.Frames.{records-above, drop-more}
 use Rattle.pending_calls.proofs.IndexFrames.{index-above}
 use Rattle.pending_offer.specs.Room.{MakesRoom, entryOf, StoresBody, RoomFor, AddsBody, chosenLabel}
-use Rattle.pending_offer.proofs.Rooms.{Room, room-made}
+use Rattle.pending_offer.proofs.Rooms.{room-made}
 
 -- the label that is chosen
 pub label-kept : (label : ℕ) (kept : List ℕ) → label < 1024 → label ≡ chosenLabel label kept

@@ -1,20 +1,19 @@
 -- The label that is found for an id: that of the id's record, or what is no label. Assumes nothing.
-use mathlib.Core.Path.{_≡_, refl, sym, ap, _∙_}
-use mathlib.Core.Logic.{_≢_}
+use mathlib.Core.Path.{_≡_, refl, sym, _∙_}
 use mathlib.Core.Bool.{Bool, true, false, cond}
 use mathlib.Core.List.{List, [], _∷_}
-use Prim.Native.Nat.{ℕ, _<_}
+use Prim.Native.Nat.{ℕ}
 use native.Mathlib.Omega.{arith}
 use lib.Dec.{eqb}
 use lib.ListN.{length}
-use borrow.Author.Tests.{eqb-true, eqb-false, eq-eqb, ne-eqb}
+use borrow.Author.Tests.{eqb-true}
 use Rattle.table.specs.declared.Entry.{Entry}
 use Rattle.table.specs.declared.TemplateRecord.{TemplateRecord}
 use Rattle.table.specs.declared.LabelFound.{LabelFound}
 use Rattle.table.specs.declared.LabelFound.the-variants as Label
 use Rattle.table.specs.Table.{tally}
 use Rattle.table.specs.Reads.{labelOf}
-use Rattle.table.proofs.Facts.{All, all-map, all-both, Differ}
+use Rattle.table.proofs.Facts.{All}
 use Rattle.cache_model.specs.Bodies.{Body, bodiesOf}
 use Rattle.pending_flows.specs.View.{bodiesAt, templatesAt}
 use Rattle.pending_flows.proofs.Templates.{length-bodies, bodiesOfLabel, bodies-of-id}
@@ -40,30 +39,6 @@ module _ (i : ℕ) where
           P i (labelOr (cond t (Label.At (r .label)) (labelOf i rs)))
       by-key true e h = rw (eqb-true i (r .key) e) (a .0)
       by-key false e h = h
-
-  -- a record has the id exactly where it has the label
-  pub found-agrees : (rs : List TemplateRecord) → Differ (λ u. u .key) rs → Differ (λ u. u .label) rs →
-      All (λ u. u .label < 1024) rs → All (λ u. eqb (labelOr (labelOf i rs)) (u .label) ≡ eqb i (u .key)) rs
-  unfolding labelOf
-  found-agrees [] keys labels small = tt
-  found-agrees (r ∷ rs) keys labels small =
-      by-key (eqb i (r .key)) refl (found-agrees rs (keys .1) (labels .1) (small .1))
-    where
-      other : labelOr (labelOf i rs) ≢ r .label
-      other =
-          found-has (λ j k. k ≢ r .label) rs
-          (all-map (λ u. r .label ≢ u .label) (λ u. u .label ≢ r .label) (λ u d e. d (sym e)) rs (labels .0))
-          (λ e. omega (arith, small .0))
-
-      by-key : (t : Bool) → eqb i (r .key) ≡ t → All (λ u. eqb (labelOr (labelOf i rs)) (u .label) ≡ eqb i (u .key)) rs →
-          All (λ u. eqb (labelOr (cond t (Label.At (r .label)) (labelOf i rs))) (u .label) ≡ eqb i (u .key)) (r ∷ rs)
-      by-key true e h = (
-        eq-eqb (r .label) (r .label) refl ∙ sym e,
-        all-both (λ u. r .key ≢ u .key) (λ u. r .label ≢ u .label) (λ u. eqb (r .label) (u .label) ≡ eqb i (u .key))
-            (λ u d f. ne-eqb (r .label) (u .label) f
-            ∙ sym (ne-eqb i (u .key) (λ g. d (sym (eqb-true i (r .key) e) ∙ g)))) rs (keys .0) (labels .0),
-      )
-      by-key false e h = (ne-eqb (labelOr (labelOf i rs)) (r .label) other ∙ sym e, h)
 
   -- the id's bodies are the label's
   pub found-bodies : (b : List ℕ) (es : List Entry) (rs : List TemplateRecord) → tally 1024 es ≡ 0 →

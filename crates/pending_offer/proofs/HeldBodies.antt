@@ -9,7 +9,7 @@ use Rattle.areas.specs.Overwrite.{overwritten}
 use Rattle.config.specs.declared.PendingFlowsConfig.{PendingFlowsConfig}
 use Rattle.config.specs.Limits.{recordWords}
 use Rattle.table.specs.declared.TemplateRecord.{TemplateRecord}
-use Rattle.table.specs.Layout.{limitsOf, entryCount, heldCount, chanceCount, recordsAt}
+use Rattle.table.specs.Layout.{limitsOf, chanceCount, recordsAt}
 use Rattle.table.specs.Table.{tableOf, recordAt}
 use Rattle.table.specs.Reads.{countSum}
 use Rattle.table.specs.WellFormed.{wellFormed}

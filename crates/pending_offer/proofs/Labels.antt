@@ -8,7 +8,6 @@ use native.Mathlib.Omega.{arith}
 use lib.Dec.{eqb, ltb}
 use lib.ListN.{length, getD, replicate, length-append, length-replicate, List·getD-eq-default}
 use borrow.Author.Tests.{eqb-true, eq-eqb, ltb-true, ltb-false}
-use Rattle.config.specs.declared.PendingFlowsConfig.{PendingFlowsConfig}
 use Rattle.table.specs.declared.Entry.{Entry}
 use Rattle.table.specs.declared.TemplateRecord.{TemplateRecord}
 use Rattle.table.specs.Layout.{limitsOf, heldCount, entryCount, chanceCount, entriesAt, recordsAt}
@@ -35,9 +34,10 @@ use Rattle.pending_calls.proofs.Removed.{zeros, TiedRowsApart}
 use Rattle.pending_offer.specs.declared.plan.OfferPlan.{OfferPlan}
 use Rattle.pending_offer.specs.Plan.{labelOr, planTest, Plans}
 use Rattle.pending_offer.specs.Room.{chosenLabel}
+use Rattle.pending_offer.proofs.PlanLabels.{differ-front, alike, label-alike}
 use Rattle.pending_offer.proofs.Settled.{outcome, settled-limited}
-use Rattle.pending_offer.proofs.Found.{no-bodies, found-has, found-agrees, found-bodies}
-use Rattle.pending_offer.proofs.Left.{differ-front, staying, held-legal, bodies-left, kept-other, templates-left}
+use Rattle.pending_offer.proofs.Found.{no-bodies, found-has, found-bodies}
+use Rattle.pending_offer.proofs.Left.{staying, held-legal, bodies-left, kept-other, templates-left}
 use Rattle.pending_offer.proofs.Left.{left-rows, left-apart, left-entries, left-records}
 use Rattle.pending_offer.proofs.Outcomes.{leaves, others, leaves-nothing, accepted-held}
 
@@ -95,7 +95,7 @@ module _ (w b : List ℕ) (ok : wellFormed w (length b) ≡ true) (i : ℕ) (x :
       let keys = differ-front (λ u. u .key) held (tableOf w .handed) (legal .table-legal .keys-differ) in
       let labels = differ-front (λ u. u .label) held (tableOf w .handed) (legal .table-legal .labels-differ) in
       rw (plans .label)
-      (found-agrees i held keys labels
+      (label-alike i held (alike held keys labels)
       (all-map Legal (λ u. u .label < 1024) (λ u h. h .label-small) held (held-legal w b ok (x .clock) skip plan)))
 
   all-labels : All (λ e. e .label < 1024) entries

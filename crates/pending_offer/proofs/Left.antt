@@ -1,8 +1,8 @@
 -- What a planned removal leaves: of each held template the bodies that the plan leaves, of what is handed out nothing.
 -- Assumes nothing.
-use mathlib.Core.Path.{_≡_, refl, sym, ap, _∙_}
-use mathlib.Core.Bool.{Bool, true, false, cond}
-use mathlib.Core.List.{List, [], _∷_, _++_, append-nil}
+use mathlib.Core.Path.{_≡_, sym, ap, _∙_}
+use mathlib.Core.Bool.{true, cond}
+use mathlib.Core.List.{List, [], append-nil}
 use Prim.Native.Nat.{ℕ, _+_, _*_, _≤_, _<_}
 use native.Mathlib.Omega.{arith}
 use native.Mathlib.Decide.{ℕ-discrete}
@@ -10,7 +10,6 @@ use lib.Dec.{eqb}
 use lib.ListN.{length, getD, drop, take-append-drop, length-drop}
 use lib.Seq.{getD-set-other}
 use borrow.Author.Tests.{eq-eqb, ne-eqb}
-use Rattle.config.specs.declared.PendingFlowsConfig.{PendingFlowsConfig}
 use Rattle.config.specs.Limits.{recordWords, wordsNeeded}
 use Rattle.config.proofs.Limits.{cap-small}
 use Rattle.table.specs.declared.Entry.{Entry}
@@ -19,8 +18,7 @@ use Rattle.table.specs.Layout.{limitsOf, heldCount, entryCount, chanceCount, en
 use Rattle.table.specs.Table.{tableOf, entriesFrom, recordsFrom, records, tally}
 use Rattle.table.specs.WellFormed.{wellFormed}
 use Rattle.table.proofs.Words.{length-entries}
-use Rattle.table.proofs.Facts.{All, all-both, Differ, Placed, LegalRecord, LegalWords, words-say}
-use Rattle.table_entries.specs.declared.StayTest.{StayTest}
+use Rattle.table.proofs.Facts.{All, all-both, Placed, LegalRecord, LegalWords, words-say}
 use Rattle.table_entries.specs.Sweep.{swept}
 use Rattle.table_entries.proofs.Lengths.{placed-wider}
 use Rattle.table_entries.proofs.Swept.{length-swept, all-swept}
@@ -28,7 +26,7 @@ use Rattle.table_records.specs.Choose.{skipAll}
 use Rattle.table_records.specs.Close.{closed}
 use Rattle.table_records.proofs.Frames.{drop-more}
 use Rattle.cache_model.specs.Bodies.{Body, Template, size, expired, keep}
-use Rattle.cache_model.proofs.Lists.{length-part, all-sub, sub-front}
+use Rattle.cache_model.proofs.Lists.{length-part}
 use Rattle.cache_model.proofs.Parts.{sub-keep}
 use Rattle.cache_model.proofs.Plans.{thin}
 use Rattle.cache_model.proofs.Thinning.{thinned}
@@ -43,14 +41,7 @@ use Rattle.pending_calls.proofs.Removed.{zeros, TiedRowsApart, placed-left, apa
 use Rattle.pending_calls.proofs.Removed.{few-templates, few-bodies, total-short}
 use Rattle.pending_offer.specs.declared.plan.OfferPlan.{OfferPlan}
 use Rattle.pending_offer.specs.Plan.{planTest, Plans}
-
-all-back : {A : Type 0} (P : A → Type 0) (xs ys : List A) → All P (xs ++ ys) → All P ys
-all-back P [] ys a = a
-all-back P (x ∷ xs) ys a = all-back P xs ys (a .1)
-
-pub differ-front : (f : TemplateRecord → ℕ) (rs us : List TemplateRecord) → Differ f (rs ++ us) → Differ f rs
-differ-front f [] us d = tt
-differ-front f (r ∷ rs) us d = (all-sub _ (sub-front rs us) (d .0), differ-front f rs us (d .1))
+use Rattle.pending_offer.proofs.PlanLabels.{all-front, all-back}
 
 -- the entries that stay by a plan
 abbrev pub staying : List ℕ → ℕ → List ℕ → OfferPlan → List Entry
@@ -80,7 +71,7 @@ module _ (w b : List ℕ) (ok : wellFormed w (length b) ≡ true) (clock : ℕ) 
   Legal = LegalRecord (limitsOf w) entries
 
   pub held-legal : All Legal held
-  held-legal = all-sub Legal (sub-front held handed) (legal .table-legal .records-legal)
+  held-legal = all-front Legal held handed (legal .table-legal .records-legal)
 
   handed-legal : All Legal handed
   handed-legal = all-back Legal held handed (legal .table-legal .records-legal)
@@ -183,15 +174,13 @@ module _ (w b : List ℕ) (ok : wellFormed w (length b) ≡ true) (clock : ℕ) 
                 by-label : Dec (u .label ≡ apart) → Left b f kept entries stay u
                 by-label (yes e) =
                     let none : f (u .key) (bodiesAt b (u .label) entries) ≡ [] =
-                    is ∙ rw (eq-eqb apart (u .label) (sym e)) in
-                    (
+                    is ∙ rw (eq-eqb apart (u .label) (sym e)) in (
                       kept-none (u .label) e ∙ sym (ap length none),
                       λ some. absurd (omega (arith, ap length none)),
                     )
                 by-label (no d) =
                     let bodies : bodiesAt b (u .label) stay ≡ f (u .key) (bodiesAt b (u .label) entries) =
-                    sym (is ∙ rw (ne-eqb apart (u .label) (λ e. d (sym e)))) in
-                    (
+                    sym (is ∙ rw (ne-eqb apart (u .label) (λ e. d (sym e)))) in (
                       kept-other (u .label) (h .label-small) d ∙ sym (length-bodies b (u .label) stay) ∙ ap length bodies,
                       λ some. bodies,
                     )

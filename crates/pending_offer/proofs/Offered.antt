@@ -1,5 +1,5 @@
 -- The offer behind the tests of 6 and of 28. Assumes nothing.
-use mathlib.Core.Path.{_≡_, refl, sym, ap, _∙_}
+use mathlib.Core.Path.{_≡_, ap}
 use mathlib.Core.Bool.{Bool, true, false}
 use mathlib.Core.List.{List}
 use Prim.Native.Nat.{ℕ, _≤_, _<_}
@@ -12,13 +12,13 @@ use Rattle.table.specs.WellFormed.{wellFormed}
 use Rattle.table.proofs.Facts.{words-say}
 use Rattle.cache_model.specs.Cache.{Cache, done, number, raised}
 use Rattle.cache_model.specs.Offer.{offered}
-use Rattle.pending_flows.specs.View.{Areas, areasOf, cacheOf, view}
+use Rattle.pending_flows.specs.View.{Areas, areasOf, cacheOf}
 use Rattle.pending_calls.specs.Promises.{Does}
 use Rattle.pending_calls.proofs.Performed.{damaged-performs, performed, untouched-all}
 use Rattle.pending_offer.specs.declared.offering.OfferRefusal.the-variants as Refusal
 use Rattle.pending_offer.specs.declared.offering.OfferAnswer.{OfferAnswer}
 use Rattle.pending_offer.specs.declared.offering.OfferAnswer.the-variants as Offer
-use Rattle.pending_offer.specs.Promises.{offerAnswer, bodyOf, Offers}
+use Rattle.pending_offer.specs.Promises.{bodyOf, Offers}
 use Rattle.pending_offer.specs.Settle.{DoesOffer}
 use Rattle.pending_offer.proofs.TooLong.{too-long-does}
 

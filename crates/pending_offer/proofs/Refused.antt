@@ -1,27 +1,24 @@
 -- An offer that is turned down with 20: what the planned removal leaves is what the definition leaves. Assumes nothing.
-use mathlib.Core.Path.{_≡_, refl, sym, ap, _∙_, subst}
-use mathlib.Core.Bool.{Bool, true, false, cond}
-use mathlib.Core.List.{List, [], _∷_, _++_}
+use mathlib.Core.Path.{_≡_, refl, sym, _∙_}
+use mathlib.Core.Bool.{true, cond}
+use mathlib.Core.List.{List, []}
 use Prim.Native.Nat.{ℕ, _+_, _*_, _-_, _^_, _≤_, _<_}
 use native.Mathlib.Omega.{arith}
 use lib.Dec.{eqb}
-use lib.ListN.{length, drop}
+use lib.ListN.{length}
 use borrow.Author.Tests.{ne-eqb}
 use Rattle.areas.specs.Overwrite.{overwritten}
 use Rattle.config.specs.declared.PendingFlowsConfig.{PendingFlowsConfig}
 use Rattle.config.specs.Limits.{entryWords}
-use Rattle.table.specs.declared.Entry.{Entry}
-use Rattle.table.specs.declared.TemplateRecord.{TemplateRecord}
 use Rattle.table.specs.Layout.{limitsOf, heldCount, entryCount, chanceCount, entriesAt, recordsAt}
 use Rattle.table.specs.Table.{tableOf, entriesFrom, recordsFrom}
-use Rattle.table.specs.Reads.{countSum}
 use Rattle.table.specs.WellFormed.{wellFormed}
 use Rattle.table.proofs.Words.{length-entries}
 use Rattle.table.proofs.Facts.{all-both, Placed, LegalRecord, LegalWords, words-say}
 use Rattle.table_entries.specs.Sums.{heldSum}
-use Rattle.cache_model.specs.Bodies.{Body, size, allBodies}
+use Rattle.cache_model.specs.Bodies.{Body, allBodies}
 use Rattle.cache_model.specs.Cache.{number}
-use Rattle.cache_model.specs.Offer.{Verdict, refused, acceptedBodies, refusalDrops, verdictAnswer, offered}
+use Rattle.cache_model.specs.Offer.{refused, offered}
 use Rattle.pending_flows.specs.View.{areasOf, cacheOf, bodiesAt, templatesAt}
 use Rattle.pending_flows.specs.declared.header.HeaderFigures.{HeaderFigures}
 use Rattle.pending_flows.specs.Header.{figuresAt, headerOf}

@@ -2,25 +2,23 @@
 use mathlib.Core.Path.{_≡_, refl, sym, ap, _∙_, subst}
 use mathlib.Core.Bool.{true}
 use mathlib.Core.Option.{some}
-use mathlib.Core.List.{List, [], _∷_, _++_}
+use mathlib.Core.List.{List, []}
 use Prim.Native.Nat.{ℕ, _+_, _≤_, _<_}
-use native.Mathlib.Nat.{add-zero}
 use native.Mathlib.Omega.{arith}
-use lib.ListN.{length, take, drop, length-drop, drop-of-length-le}
+use lib.ListN.{length, take, drop, drop-of-length-le}
 use lib.Seq.{take-all}
 use borrow.Author.Tests.{le-ltb}
 use Rattle.areas.specs.Overwrite.{overwritten}
 use Rattle.config.specs.declared.PendingFlowsConfig.{PendingFlowsConfig}
-use Rattle.config.specs.Limits.{headerWords, wordsNeeded}
+use Rattle.config.specs.Limits.{wordsNeeded}
 use Rattle.config.proofs.Limits as Config
 use Rattle.table.specs.declared.Entry.{Entry}
 use Rattle.table.specs.declared.TemplateRecord.{TemplateRecord}
 use Rattle.table.specs.Layout.{limitsOf, cachedWord, droppedWord, entriesAt, recordsAt}
 use Rattle.table.specs.Table.{tableOf, entriesFrom, recordsFrom, indexFrom, hasLabel, sumLens}
-use Rattle.table.specs.Reads.{countSum}
 use Rattle.table.specs.WellFormed.{wellFormed}
-use Rattle.table.proofs.Words.{length-records, length-entries}
-use Rattle.table.proofs.Facts.{All, all-map, Placed, LegalWords, words-say}
+use Rattle.table.proofs.Words.{length-records}
+use Rattle.table.proofs.Facts.{all-map, Placed, LegalWords, words-say}
 use Rattle.table_entries.specs.Sums.{heldSum}
 use Rattle.table_entries.proofs.Frames.{entries-above}
 use Rattle.table_entries.proofs.Lengths.{held-all, lens-within}

@@ -12,13 +12,13 @@ use Rattle.config.specs.Limits.{wordsNeeded}
 use Rattle.config.proofs.Limits as Config
 use Rattle.table.specs.Layout.{limitsOf, cachedWord, droppedWord, totalWord, heldCount, entryCount, chanceCount}
 use Rattle.table.specs.Layout.{entriesAt, recordsAt}
-use Rattle.table.specs.Table.{tableOf, entriesFrom, records, index}
+use Rattle.table.specs.Table.{tableOf, records, index}
 use Rattle.table.specs.WellFormed.{wellFormed}
 use Rattle.table.proofs.Facts.{LegalWords, words-say}
 use Rattle.table_entries.proofs.Frames.{entries-above}
 use Rattle.table_records.proofs.Frames.{word-other, word-same, records-above}
 use Rattle.cache_model.specs.Bodies.{Body, size}
-use Rattle.cache_model.specs.Cache.{Cache, Outcome, number, raised}
+use Rattle.cache_model.specs.Cache.{Outcome, number, raised}
 use Rattle.cache_model.specs.Offer.{refusedSize, offered}
 use Rattle.cache_model.proofs.Calls.{refused-size-within}
 use Rattle.pending_flows.specs.View.{areasOf, cacheOf, view}

@@ -84,7 +84,16 @@ fn remove_planned(
 {
     let records = (figures.templates + figures.chance) as usize;
     let test = stay_test(limits, clock, plan);
-    remove(words, records_at(limits), records, figures.entries as usize, test, skip, apart, kept)
+    remove(
+        words,
+        records_at(limits),
+        records,
+        figures.entries as usize,
+        test,
+        skip,
+        apart,
+        kept,
+    )
 }
 
 // Stores a body that is accepted, with what its plan removes.
@@ -111,11 +120,29 @@ fn accept(
 {
     let held = held_bodies(words, bytes, limits, figures);
     let mut kept = [0u32; LABELS];
-    let left = remove_planned(words, bytes, limits, figures, plan, clock, skip, plan.label, &mut kept);
+    let left = remove_planned(
+        words,
+        bytes,
+        limits,
+        figures,
+        plan,
+        clock,
+        skip,
+        plan.label,
+        &mut kept,
+    );
     let label = choose_label(plan.label, &kept);
     add_body(words, bytes, limits, left, label, id, body, clock);
     let gone = held - (left.entries as u64);
-    settle(words, limits, figures, 1, gone, left.records + 1, left.entries + 1);
+    settle(
+        words,
+        limits,
+        figures,
+        1,
+        gone,
+        left.records + 1,
+        left.entries + 1,
+    );
 }
 
 // Offers a body that is not too long to a well-formed cache.
@@ -129,18 +156,55 @@ fn offer_body(words: &mut [u64], bytes: &mut [u8], id: u64, body: &[u8], clock: 
     let limits = limits_at(words);
     let figures = figures_at(words);
     let mut skip = [0u32; LABELS];
-    let plan = plan_offer(words, bytes, limits, figures, id, body.len(), clock, &mut skip);
+    let plan = plan_offer(
+        words,
+        bytes,
+        limits,
+        figures,
+        id,
+        body.len(),
+        clock,
+        &mut skip,
+    );
     if plan.full {
         let held = held_bodies(words, bytes, limits, figures);
         let mut kept = [0u32; LABELS];
         // no label apart: the template is not promoted
         let none = LABELS as u64;
-        let left = remove_planned(words, bytes, limits, figures, plan, clock, &mut skip, none, &mut kept);
+        let left = remove_planned(
+            words,
+            bytes,
+            limits,
+            figures,
+            plan,
+            clock,
+            &mut skip,
+            none,
+            &mut kept,
+        );
         let gone = held - (left.entries as u64);
-        settle(words, limits, figures, 0, gone + 1, left.records, left.entries);
+        settle(
+            words,
+            limits,
+            figures,
+            0,
+            gone + 1,
+            left.records,
+            left.entries,
+        );
         return OfferAnswer::Refused(OfferRefusal::TemplateFull);
     }
-    accept(words, bytes, limits, figures, plan, &mut skip, id, body, clock);
+    accept(
+        words,
+        bytes,
+        limits,
+        figures,
+        plan,
+        &mut skip,
+        id,
+        body,
+        clock,
+    );
     OfferAnswer::Cached
 }
 

@@ -25,13 +25,7 @@ use table_records::free_label;
 
 // Where a body of this length goes: behind the last one, or, where it would end past `most` there, behind them all
 // once they are moved together.
-fn make_room(
-    words: &mut [u64],
-    bytes: &mut [u8],
-    entries: usize,
-    len: usize,
-    most: usize,
-) -> usize
+fn make_room(words: &mut [u64], bytes: &mut [u8], entries: usize, len: usize, most: usize) -> usize
     requires { ⌜ (entriesAt + entryWords * entries ≤ length (now words)) × (placesLegal 0 most (entriesFrom (now
         words) entriesAt entries) ≡ true) ⌝ }
     requires { ⌜ (len ≤ most) × ((most ≤ length (now bytes)) × (most ≤ 67108864)) ⌝ }
@@ -98,7 +92,13 @@ pub fn add_body(
         ⌜ AddsBody limits (left .records) (left .entries) (record { key = id; label = label; count = left .apart + 1 })
         (now (body .entry)) clock (now (words .entry)) (now (bytes .entry)) (now (words .exit)) (now (bytes .exit)) ⌝ }
 {
-    let place = make_room(words, bytes, left.entries, body.len(), limits.max_total_bytes);
+    let place = make_room(
+        words,
+        bytes,
+        left.entries,
+        body.len(),
+        limits.max_total_bytes,
+    );
     store_body(words, bytes, left.entries, label, place, body, clock);
     let template = TemplateRecord {
         key: id,

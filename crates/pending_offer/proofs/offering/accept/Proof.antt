@@ -4,13 +4,6 @@ use Rattle.pending_offer.proofs.Accepts.{Accepting, accepted-room, acce
 use Rattle.pending_offer.proofs.Accepts.{accepted-settles, accepted-does}
 use Rattle.pending_offer.proofs.offering.accept.Statement.{statement}
 use Rattle.pending_offer.proofs.offering.accept.Tie as tie
-use Rattle.pending_offer.proofs.offering.accept.Reads as reads
-use Rattle.pending_offer.proofs.offering.accept.Lts as lts
-use Rattle.pending_offer.proofs.offering.remove_planned.Reads as remove-planned-reads
-use Rattle.pending_offer.proofs.settling.held_bodies.Reads as held-bodies-reads
-use Rattle.pending_offer.proofs.settling.settle.Reads as settle-reads
-use Rattle.pending_offer.proofs.storing.add_body.Reads as add-body-reads
-use Rattle.pending_offer.proofs.storing.choose_label.Reads as choose-label-reads
 
 -- where the function begins, and where the removal is done
 abbrev begins : tie.After-held-bodies → tie.Start
@@ -49,58 +42,47 @@ known c =
       label = c .choose-label .ensures;
     }
 
--- src/offering.rt:112:9
 held-bodies-requires : tie.Need-held-bodies-requires
 held-bodies-requires c κs = search needs
 
--- src/offering.rt:114:9
 remove-planned-requires : tie.Need-remove-planned-requires
 remove-planned-requires c κs =
     let pre = begins (c .before .before .before .before) .pre in
     (pre .0, ((pre .1 .0 .0, pre .1 .1 .0 .long), refl))
 
--- src/offering.rt:115:9
 choose-label-requires : tie.Need-choose-label-requires
 choose-label-requires c κs = search needs
 
--- src/offering.rt:116:5
 add-body-requires : tie.Need-add-body-requires
 add-body-requires c κs = accepted-room (known (c .before .before))
 
--- src/offering.rt:117:16
 sub-gone : tie.Need-sub-gone
 sub-gone c =
     let added : tie.After-add-body = c .before .before .before .before in
     accepted-fewer (known (chosen added)) (held (chosen added) .held-bodies .ensures)
 
--- src/offering.rt:118:45
 add-settle : tie.Need-add-settle
 add-settle c =
     let added : tie.After-add-body = c .before .before .before .before .before .before in
     record { fits = records-fit (known (chosen added)) }
 
--- src/offering.rt:118:63
 add-settle-2 : tie.Need-add-settle-2
 add-settle-2 c =
     let added : tie.After-add-body = c .before .before .before .before .before .before .before in
     record { fits = entries-fit (known (chosen added)) }
 
--- src/offering.rt:118:5
 settle-requires : tie.Need-settle-requires
 settle-requires c κs =
     let added : tie.After-add-body = c .before .before .before .before .before .before .before in
     accepted-settles (known (chosen added)) (added .add-body .kept .0 ∙ known (chosen added) .long)
     (added .add-body .ensures)
 
--- src/offering.rt:91:1
 same-length : tie.Need-same-length
 same-length c = search needs
 
--- src/offering.rt:91:1
 same-length-2 : tie.Need-same-length-2
 same-length-2 c = search needs
 
--- src/offering.rt:91:1
 returns : tie.Need-returns
 returns c =
     let settled : tie.After-settle = c .before .before in

@@ -5,15 +5,6 @@ use Rattle.pending_offer.proofs.Refused.{Refusing, refused-settles, ref
 use Rattle.pending_offer.proofs.Offered.{size-within, cached-offer, full-offer}
 use Rattle.pending_offer.proofs.offering.offer_body.Statement.{statement}
 use Rattle.pending_offer.proofs.offering.offer_body.Tie as tie
-use Rattle.pending_offer.proofs.offering.offer_body.Reads as reads
-use Rattle.pending_offer.proofs.offering.offer_body.Lts as lts
-use Rattle.pending_flows.proofs.figures_at.Reads as figures-at-reads
-use Rattle.pending_offer.proofs.offering.accept.Reads as accept-reads
-use Rattle.pending_offer.proofs.offering.remove_planned.Reads as remove-planned-reads
-use Rattle.pending_offer.proofs.plan.plan_offer.Reads as plan-offer-reads
-use Rattle.pending_offer.proofs.settling.held_bodies.Reads as held-bodies-reads
-use Rattle.pending_offer.proofs.settling.settle.Reads as settle-reads
-use Rattle.table.proofs.limits_at.Reads as limits-at-reads
 
 -- where the figures and the limits are read, and where the function begins
 abbrev figured : tie.After-plan-offer → tie.After-figures-at
@@ -54,57 +45,45 @@ known c =
       long = c .remove-planned .kept .0;
     }
 
--- src/offering.rt:129:9
 limits-at-requires : tie.Need-limits-at-requires
 limits-at-requires c κs = search (header-within, needs)
 
--- src/offering.rt:130:9
 figures-at-requires : tie.Need-figures-at-requires
 figures-at-requires c κs = search (header-within, needs)
 
--- src/offering.rt:132:9
 plan-offer-requires : tie.Need-plan-offer-requires
 plan-offer-requires c κs = search (size-within, needs)
 
--- src/offering.rt:134:13
 held-bodies-requires : tie.Need-held-bodies-requires
 held-bodies-requires c κs = search needs
 
--- src/offering.rt:138:13
 remove-planned-requires : tie.Need-remove-planned-requires
 remove-planned-requires c κs =
     let counted : tie.After-held-bodies = c .before .before .before .before in
-    let plan : tie.After-plan-offer = counted .before .before .before .before in
-    (
+    let plan : tie.After-plan-offer = counted .before .before .before .before in (
       (start plan .pre .0 .0, limited plan .limits-at .ensures),
       ((figured plan .figures-at .ensures, plan .plan-offer .ensures .long), refl),
     )
 
--- src/offering.rt:139:20
 sub-gone : tie.Need-sub-gone
 sub-gone c =
     let left : tie.After-remove-planned = c .before .before in
     refused-fewer (known left) (held left .held-bodies .ensures)
 
--- src/offering.rt:140:43
 add-settle : tie.Need-add-settle
 add-settle c =
     let left : tie.After-remove-planned = c .before .before .before in
     record { fits = drops-fit (known left) (held left .held-bodies .ensures) }
 
--- src/offering.rt:140:9
 settle-requires : tie.Need-settle-requires
 settle-requires c κs = refused-settles (known (c .before .before .before))
 
--- src/offering.rt:141:9
 same-length : tie.Need-same-length
 same-length c = search needs
 
--- src/offering.rt:141:9
 same-length-2 : tie.Need-same-length-2
 same-length-2 c = search needs
 
--- src/offering.rt:141:9
 returns : tie.Need-returns
 returns c =
     let settled : tie.After-settle = c .before .before in
@@ -113,12 +92,10 @@ returns c =
     (refused-does (known left) (held left .held-bodies .ensures) (figured (planned left) .figures-at .ensures)
     (settled .settle .ensures))
 
--- src/offering.rt:143:5
 accept-requires : tie.Need-accept-requires
 accept-requires c κs =
     let plan : tie.After-plan-offer = c .before .before .before .before in
-    let pre = start plan .pre in
-    (
+    let pre = start plan .pre in (
       (pre .0 .0, limited plan .limits-at .ensures),
       (
         (figured plan .figures-at .ensures, pre .1),
@@ -126,15 +103,12 @@ accept-requires c κs =
       ),
     )
 
--- src/offering.rt:122:1
 same-length-3 : tie.Need-same-length-3
 same-length-3 c = search needs
 
--- src/offering.rt:122:1
 same-length-4 : tie.Need-same-length-4
 same-length-4 c = search needs
 
--- src/offering.rt:122:1
 returns-2 : tie.Need-returns-2
 returns-2 c = search (cached-offer, needs)
 

@@ -3,41 +3,29 @@ use Rattle.pending_flows.proofs.Questions.{bodies-few}
 use Rattle.pending_offer.proofs.Removing.{zeros-long, records-few, records-fit, rows-within, removed-planned}
 use Rattle.pending_offer.proofs.offering.remove_planned.Statement.{statement}
 use Rattle.pending_offer.proofs.offering.remove_planned.Tie as tie
-use Rattle.pending_offer.proofs.offering.remove_planned.Reads as reads
-use Rattle.pending_offer.proofs.offering.remove_planned.Lts as lts
-use Rattle.pending_calls.proofs.remove.Reads as remove-reads
-use Rattle.pending_offer.proofs.offering.stay_test.Reads as stay-test-reads
-use Rattle.table.proofs.records_at.Reads as records-at-reads
 
--- src/offering.rt:85:20
 add-records : tie.Need-add-records
 add-records c = record { fits = search (records-fit, needs) }
 
--- src/offering.rt:86:9
 stay-test-requires : tie.Need-stay-test-requires
 stay-test-requires c κs = search needs
 
--- src/offering.rt:87:19
 records-at-requires : tie.Need-records-at-requires
 records-at-requires c κs = search (bodies-few, needs)
 
--- src/offering.rt:87:5
 remove-requires : tie.Need-remove-requires
 remove-requires c κs =
     let at : tie.After-records-at = c .before .before in
     let start : tie.Start = at .before .before .before .before .before .before in
     let ok = start .pre .0 .0 in
-    let figures = start .pre .1 .0 .0 in
-    (
+    let figures = start .pre .1 .0 .0 in (
       rows-within _ _ ok _ figures _ (start .pre .0 .1) _ (at .records-at .ensures),
       (records-few _ _ ok _ figures, (start .pre .1 .0 .1, zeros-long _ (start .pre .1 .1))),
     )
 
--- src/offering.rt:66:1
 same-length : tie.Need-same-length
 same-length c = search needs
 
--- src/offering.rt:66:1
 returns : tie.Need-returns
 returns c = search (removed-planned, needs)
 

@@ -2,19 +2,13 @@ use borrow.Author.Needs.{needs}
 use Rattle.pending_offer.proofs.Additions.{label-kept, label-free}
 use Rattle.pending_offer.proofs.storing.choose_label.Statement.{statement}
 use Rattle.pending_offer.proofs.storing.choose_label.Tie as tie
-use Rattle.pending_offer.proofs.storing.choose_label.Reads as reads
-use Rattle.pending_offer.proofs.storing.choose_label.Lts as lts
-use Rattle.table_records.proofs.free_label.Reads as free-label-reads
 
--- src/storing.rt:80:9
 returns : tie.Need-returns
 returns c = search (label-kept, needs)
 
--- src/storing.rt:82:5
 free-label-requires : tie.Need-free-label-requires
 free-label-requires c κs = search needs
 
--- src/storing.rt:76:1
 returns-2 : tie.Need-returns-2
 returns-2 c = search (label-free, needs)
 

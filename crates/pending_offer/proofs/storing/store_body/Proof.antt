@@ -2,36 +2,25 @@ use borrow.Author.Needs.{needs}
 use Rattle.pending_offer.proofs.Rooms.{body-stored}
 use Rattle.pending_offer.proofs.storing.store_body.Statement.{statement}
 use Rattle.pending_offer.proofs.storing.store_body.Tie as tie
-use Rattle.pending_offer.proofs.storing.store_body.Reads as reads
-use Rattle.pending_offer.proofs.storing.store_body.Lts as lts
-use Rattle.areas.proofs.write_body.Reads as write-body-reads
-use Rattle.table_entries.proofs.put_entry.Reads as put-entry-reads
 
--- src/storing.rt:64:37
 mul-put-entry : tie.Need-mul-put-entry
 mul-put-entry c = search needs
 
--- src/storing.rt:64:22
 add-put-entry : tie.Need-add-put-entry
 add-put-entry c = search needs
 
--- src/storing.rt:64:5
 put-entry-requires : tie.Need-put-entry-requires
 put-entry-requires c κs = search needs
 
--- src/storing.rt:65:5
 write-body-requires : tie.Need-write-body-requires
 write-body-requires c κs = search needs
 
--- src/storing.rt:43:1
 same-length : tie.Need-same-length
 same-length c = search needs
 
--- src/storing.rt:43:1
 same-length-2 : tie.Need-same-length-2
 same-length-2 c = search needs
 
--- src/storing.rt:43:1
 returns : tie.Need-returns
 returns c = search (body-stored, needs)
 
