@@ -85,35 +85,24 @@ evictions-few room sizes total (r ∷ rs) =
     by-test true h = omega arith
     by-test false h = omega arith
 
-pub over-few : (room : ℕ) (rs : List TemplateRecord) (es : List Entry) → overTotal room rs es ≤ length rs
-over-few room rs es = evictions-few room (summed everything true zeros es) (heldSum 1024 es) rs
+module _ (room : ℕ) (sizes : List ℕ) (total : ℕ) (w : List ℕ) (p k : ℕ) {evicted : ℕ}
+    (chosen : evicted ≡ evictionsOf room sizes total (recordsFrom w p k)) where
+  few : evicted ≤ k
+  few = omega (arith, chosen, evictions-few room sizes total (recordsFrom w p k), length-records w p k)
 
-module _ (room : ℕ) (w : List ℕ) (p k m : ℕ) where
-  module _ {q : StayTest} {sizes : List ℕ} {total evicted : ℕ} (all : q ≡ everything)
-      (sized : sizes ≡ summed q true zeros (entriesFrom w entriesAt m))
-      (summed-up : total ≡ heldSum 1024 (entriesFrom w entriesAt m))
-      (chosen : evicted ≡ evictionsOf room sizes total (recordsFrom w p k)) where
-    is-over : evicted ≡ overTotal room (recordsFrom w p k) (entriesFrom w entriesAt m)
-    is-over = chosen ∙ rw (sized, all, summed-up)
+  pub evicted-within : p + recordWords * k ≤ length w → p + recordWords * evicted ≤ length w
+  evicted-within h = omega (arith, few)
 
-    few : evicted ≤ k
-    few =
-        omega (
-          arith,
-          is-over,
-          over-few room (recordsFrom w p k) (entriesFrom w entriesAt m),
-          length-records w p k,
-        )
-
-    pub evicted-within : p + recordWords * k ≤ length w → p + recordWords * evicted ≤ length w
-    evicted-within h = omega (arith, few)
-
-    pub total-skips : (skip : List ℕ) {skip′ : List ℕ} → skip′ ≡ skipping skip (recordsFrom w p evicted) →
-        skip′ ≡ totalSkips room (recordsFrom w p k) (entriesFrom w entriesAt m) skip
-    unfolding totalSkips
-    total-skips skip first =
-        first ∙ ap (skipping skip) (records-take w p evicted k few)
-        ∙ ap (λ (i : ℕ). skipping skip (take i (recordsFrom w p k))) is-over
+  pub total-skips : (m : ℕ) (skip : List ℕ) {q : StayTest} {skip′ : List ℕ} → q ≡ everything →
+      sizes ≡ summed q true zeros (entriesFrom w entriesAt m) → total ≡ heldSum 1024 (entriesFrom w entriesAt m) →
+      skip′ ≡ skipping skip (recordsFrom w p evicted) →
+      skip′ ≡ totalSkips room (recordsFrom w p k) (entriesFrom w entriesAt m) skip
+  unfolding totalSkips
+  total-skips m skip all sized summed-up first =
+      let over : evicted ≡ overTotal room (recordsFrom w p k) (entriesFrom w entriesAt m) =
+      chosen ∙ rw (sized, all, summed-up) in
+      first ∙ ap (skipping skip) (records-take w p evicted k few)
+      ∙ ap (λ (i : ℕ). skipping skip (take i (recordsFrom w p k))) over
 
 pub total-skips-long : (room : ℕ) (rs : List TemplateRecord) (es : List Entry) (skip : List ℕ) →
     skip ≡ totalSkips room rs es zeros → length skip ≡ 1024

@@ -20,7 +20,8 @@ use Rattle.pending_resize.specs.Removing.{zeros, RemovesSkipped}
 abbrev pub smallEnough : PendingFlowsConfig → StayTest
 smallEnough l = record { ttl = None; clock = 0; all = false; label = 1024; «max_size» = l .«max_entry_size_bytes» }
 
--- of held records the bodies beyond the new cap; all bodies of the first ones, and of handed-out records
+-- of held records the oldest bodies beyond the new cap; all bodies of the least recent ones beyond the new number, and
+-- of handed-out records
 unfoldable pub cutSkips : PendingFlowsConfig → (held handed : List TemplateRecord) → List Entry → List ℕ → List ℕ
 cutSkips l held handed es skip =
     skipping
