@@ -3,5 +3,6 @@ mod draining;
 mod restoring;
 
 pub use draining::DrainAnswer;
+pub use draining::drain;
 pub use restoring::PutBackAnswer;
 pub use restoring::PutBackRefusal;

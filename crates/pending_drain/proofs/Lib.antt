@@ -1,0 +1,10 @@
+pub mod HeldLabels
+pub mod Handing
+pub mod Staying
+pub mod DrainedRows
+pub mod Written
+pub mod TakenOut
+pub mod HandedRows
+pub mod HeldTotals
+pub mod Drained
+pub mod Drains
