@@ -12,7 +12,7 @@ pub record Cache : Type 0 where
   pub held : List Template  -- least recent first
   pub chance : Template  -- the last drain's id and what it handed out, while it may be put back; no bodies: no chance
 
--- "a counter stops at 2^64 - 1"
+-- "Counters stop at 2^64 - 1."
 abbrev pub counterMost : ℕ
 counterMost = 18446744073709551615
 

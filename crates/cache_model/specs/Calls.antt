@@ -52,13 +52,14 @@ putBack i n c =
     (record { answer = number 25; cache = c }))
 
 -- resize: "evicts least recent templates down to the new count, drops bodies over the new entry size, then oldest
--- bodies beyond the new cap, then least recent templates until the total fits"
+-- bodies beyond the new cap"
 abbrev pub cut : PendingFlowsConfig → List Template → Split
 cut l ts =
     capped (l .«max_entries_per_template»)
     (pruned (λ j x. leb (size x) (l .«max_entry_size_bytes»))
     (evicted (length ts - l .«max_pending_flows») (untouched ts)))
 
+-- "then least recent templates until the total fits"
 unfoldable pub shrunk : PendingFlowsConfig → List Template → Split
 shrunk l ts = let s = cut l ts in evicted (evictions (l .«max_total_bytes») 0 (s .held)) s
 

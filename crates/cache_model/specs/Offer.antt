@@ -13,7 +13,7 @@ pub data Verdict : Type 0 where
   accepted : Verdict
   refused : ℕ → Verdict
 
--- a verdict, and what evictions and pruning left
+-- a verdict, and what is then held and removed
 pub record Offered : Type 0 where
   pub verdict : Verdict
   pub left : Split

@@ -20,7 +20,8 @@ opening l bytes words was =
     cond (eqb (configNumber l bytes words) 0) (record { answer = done; holds = some (opened l) })
     (record { answer = number (configNumber l bytes words); holds = was })
 
--- "28 is tested first by every cache call but opening", and nothing changes; then what the call does to the cache
+-- "28 is tested first by every cache call but opening", and nothing changes; then what the call does to the cache.
+-- A reading then shows an empty part, and the call beside it answers the number.
 abbrev pub called : (Cache → Outcome) → Option Cache → Reply
 called f none = record { answer = number 28; holds = none }
 called f (some c) = record { answer = f c .answer; holds = some (f c .cache) }

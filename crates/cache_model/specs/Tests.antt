@@ -116,8 +116,8 @@ unfolding configNumber limitsNumber areasHold evicted evictions pruned capped st
     readHandedOut placeHandedOut figures does after answers
 readings-right = refl
 
--- every call on damaged areas answers 28, before all else: the offer is too long, the new limits are refused, there is
--- no chance, a put-back of 0 would succeed
+-- every call on damaged areas answers 28 (a reading by the call beside it), before all else: the offer is too long, the
+-- new limits are refused, there is no chance, a put-back of 0 would succeed
 abbrev everyCall : List Call
 everyCall =
     offerOf 300 3 0 ∷ Drain 300 0 ∷ PutBack 300 1 ∷ PutBack 300 0 ∷ Resize (limitsOf 0 1 1 1 None) 4 100 ∷ Clear

@@ -139,7 +139,7 @@ resizeChange l c = chanceEnds c (shrunk l (c .held) .removed) []
 abbrev pub clearChange : Cache → Change
 clearChange c = chanceEnds c [] (allBodies (c .held))
 
--- k is the ordinal of the call, if it is an offer
+-- k is the call's ordinal among the offers, if it is one
 unfoldable pub change : ℕ → Call → Cache → Change
 change k (Offer i bytes now) c =
     let b : Body = record { number = k; bytes = bytes; clock = now } in

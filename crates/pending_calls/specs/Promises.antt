@@ -25,7 +25,8 @@ abbrev pub UntouchedPast : PendingFlowsConfig → Areas → Areas → Type 0
 UntouchedPast l a a′ = Untouched (wordsNeeded l) (l .«max_total_bytes») a a′
 
 -- The areas then hold what the definition leaves, and the answer is the definition's; 28 changes nothing.
--- Free: the words and bytes that no held or handed-out body needs, and the places of bodies.
+-- Free: within the need, the words and bytes that `view` does not read (docs/LAYOUT.md), labels, and the places of
+-- bodies; of labels and places the test behind 28 holds.
 pub record Performs (f : Cache → Outcome) (a : Areas) (r : Answer) (a′ : Areas) : Type 0 where
   pub answer : r ≡ called f (view a) .answer
   pub holds : view a′ ≡ called f (view a) .holds

@@ -21,7 +21,7 @@ abbrev pub openingIn : PendingFlowsConfig → Areas → Reply
 openingIn limits a = opening limits (length (a .bytes)) (length (a .words)) (view a)
 
 -- Opening answers 1 to 5 and then changes nothing, or leaves a newly opened cache, whatever the areas held before.
--- Free: the words that the cache does not use yet.
+-- Free: within the need, the words that `view` of an empty cache does not read.
 pub record Opens (limits : PendingFlowsConfig) (a : Areas) (r : ConfigAnswer) (a′ : Areas) : Type 0 where
   pub answer : openingAnswer r ≡ openingIn limits a .answer
   pub holds : view a′ ≡ openingIn limits a .holds
