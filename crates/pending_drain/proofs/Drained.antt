@@ -6,7 +6,7 @@ use mathlib.Core.Option.{some}
 use Prim.Native.Nat.{ℕ, _+_, _*_, _-_, _≤_, _<_}
 use native.Mathlib.Omega.{arith}
 use lib.ListN.{length, take, drop}
-use Rattle.config.specs.Limits.{recordWords, entryWords, wordsNeeded}
+use Rattle.config.specs.Limits.{recordWords, wordsNeeded}
 use Rattle.table.specs.declared.Entry.{Entry}
 use Rattle.table.specs.Layout.{limitsOf, cachedWord, droppedWord, heldCount, entryCount, chanceCount, entriesAt}
 use Rattle.table.specs.Layout.{recordsAt}
@@ -34,10 +34,9 @@ use Rattle.table_view.proofs.Stored.{tableWith, legal-limited}
 use Rattle.pending_calls.specs.declared.removal.Removed.{Removed}
 use Rattle.pending_calls.specs.Promises.{Does}
 use Rattle.pending_calls.proofs.Headers.{headed}
-use Rattle.pending_calls.proofs.Removed.{entries-below-records}
 use Rattle.pending_drain.specs.Handing.{TakesOut, HandsOut}
 use Rattle.pending_drain.proofs.HeldLabels.{heldLabel, all-front}
-use Rattle.pending_drain.proofs.HeldTotals.{held-fits, held-total}
+use Rattle.pending_drain.proofs.HeldTotals.{held-total}
 use Rattle.pending_drain.proofs.TakenOut as Out
 use Rattle.pending_drain.proofs.HandedRows.{HandedRows, rows-handed}
 use Rattle.pending_drain.proofs.Written.{written-frame, written-view}
@@ -63,9 +62,6 @@ module _ (w b : List ℕ) (i now : ℕ) where
     legal : LegalWords w (length b)
     legal = words-say w (length b) ok
 
-    pub entries-below : entriesAt + entryWords * r .entries ≤ p
-    entries-below = omega (arith, taken .few-entries, entries-below-records w (length b) legal)
-
     module _ (id : i < 65536) {w₂ : List ℕ} {c : ℕ}
         (hand : HandsOut p (r .records) (record { key = i; label = label; count = r .apart }) w₁ w₂ c)
         (long : length w₂ ≡ length w) where
@@ -77,14 +73,13 @@ module _ (w b : List ℕ) (i now : ℕ) where
       rows =
           rows-handed b label i p (r .records) (r .entries) (r .apart) w₁ w₂ c (Out.out-tied w b i now legal taken)
           (Out.out-apart w b i now legal taken) id (Out.out-fresh w b i now legal taken)
-          (Out.out-small w b i now legal taken) entries-below hand
+          (Out.out-small w b i now legal taken) (Out.out-below w b i now legal taken) hand
 
       placed : Placed 0 (limitsOf w .«max_total_bytes») es
       placed = rw (rows .entries) (Out.out-placed w b i now legal taken)
 
       pub bytes-fit : (out : ℕ) → heldSum out es ≤ 18446744073709551615
-      bytes-fit out =
-          omega (arith, held-fits out (limitsOf w .«max_total_bytes») es placed, legal .limits-legal .total-small)
+      bytes-fit out = rw (rows .entries) (Out.out-fits w b i now legal taken out)
 
       total-right : heldSum label es ≡ sumLens (recordsFrom w₂ p (r .records)) es
       total-right = rw (rows .entries, rows .held) (held-total (Out.out-tied w b i now legal taken))

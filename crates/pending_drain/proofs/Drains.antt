@@ -24,41 +24,14 @@ use Rattle.pending_flows.proofs.Questions.{first-records}
 use Rattle.pending_calls.specs.declared.removal.Removed.{Removed}
 use Rattle.pending_calls.specs.Promises.{Does}
 use Rattle.pending_calls.proofs.Performed.{damaged-performs, performed, untouched-all}
-use Rattle.pending_calls.proofs.Removed.{few-templates, entries-below-records, records-within}
+use Rattle.pending_calls.proofs.Removed.{records-within}
 use Rattle.pending_drain.specs.declared.draining.DrainAnswer.the-variants as Drain
 use Rattle.pending_drain.specs.Handing.{labelOrNone, TakesOut, HandsOut}
 use Rattle.pending_drain.specs.Promises.{Drains}
+use Rattle.pending_drain.proofs.AsRead.{as-read}
 use Rattle.pending_drain.proofs.HeldLabels.{heldLabel}
-use Rattle.pending_drain.proofs.TakenOut.{out-tied, out-fewer}
-use Rattle.pending_drain.proofs.Drained.{entries-below, bytes-fit, handed-few, left-few, drain-does}
-
--- the limits and figures that words hold, and where their records begin
-module _ (w : List ℕ) {l : PendingFlowsConfig} {f : HeaderFigures} {p : ℕ} (limits : l ≡ limitsOf w)
-    (figures : f ≡ figuresAt w) (from : p ≡ recordsAt l) where
-  pub as-read : (T : PendingFlowsConfig → HeaderFigures → ℕ → Type 0) →
-      T (limitsOf w) (figuresAt w) (recordsAt (limitsOf w)) → T l f p
-  as-read T t =
-      subst (λ (m : PendingFlowsConfig). T m f p) (sym limits)
-      (subst (λ (g : HeaderFigures). T (limitsOf w) g p) (sym figures)
-      (subst (T (limitsOf w) (figuresAt w)) (sym (from ∙ ap recordsAt limits)) t))
-
-  module _ (n : ℕ) (ok : wellFormed w n ≡ true) where
-    legal : LegalWords w n
-    legal = words-say w n ok
-
-    pub held-room : p + recordWords * f .templates ≤ length w
-    held-room =
-        as-read (λ l f p. p + recordWords * f .templates ≤ length w) (omega (arith, records-within w n legal))
-
-    pub rows-room : (entriesAt + entryWords * f .entries ≤ p) ×
-        (p + recordWords * (f .templates + f .chance) ≤ length w)
-    rows-room =
-        as-read
-        (λ l f p. (entriesAt + entryWords * f .entries ≤ p) × (p + recordWords * (f .templates + f .chance) ≤ length w))
-        (entries-below-records w n legal, records-within w n legal)
-
-    pub records-few : f .templates + f .chance ≤ 1024
-    records-few = as-read (λ l f p. f .templates + f .chance ≤ 1024) (few-templates w n legal)
+use Rattle.pending_drain.proofs.TakenOut.{out-tied, out-below, out-fewer}
+use Rattle.pending_drain.proofs.Drained.{bytes-fit, handed-few, left-few, drain-does}
 
 -- what is asked before the header is written: of so many entries some were handed out before, and some are left
 pub record Settling (entries handed left : ℕ) (w : List ℕ) : Type 0 where
@@ -130,7 +103,7 @@ module _ (w b : List ℕ) (i now : ℕ) (ok : wellFormed w (length b) ≡ true) 
               less-left = left-few w b i now ok o id k long handed;
               entries-fit = omega (
                 arith,
-                entries-below w b i now ok o,
+                out-below w b i now (words-say w (length b) ok) o,
                 records-within w (length b) (words-say w (length b) ok),
               );
               bytes-fit = bytes-fit w b i now ok o id k long;

@@ -3,39 +3,39 @@
 use mathlib.Core.Path.{_≡_, sym, ap, _∙_}
 use mathlib.Core.Logic.{_≢_}
 use mathlib.Core.Bool.{false}
-use mathlib.Core.List.{List, [], _++_}
-use Prim.Native.Nat.{ℕ, _+_, _≤_, _<_}
+use mathlib.Core.List.{List, _++_}
+use Prim.Native.Nat.{ℕ, _+_, _*_, _≤_, _<_}
 use native.Mathlib.Omega.{arith}
 use native.Mathlib.Decide.{ℕ-discrete}
-use lib.ListN.{length, getD, take-append-drop, length-drop, List·getD-eq-default}
-use lib.Seq.{length-take-le}
+use lib.ListN.{length, getD, take-append-drop, List·getD-eq-default}
 use Rattle.config.specs.declared.PendingFlowsConfig.{PendingFlowsConfig}
+use Rattle.config.specs.Limits.{entryWords}
 use Rattle.table.specs.declared.Entry.{Entry}
 use Rattle.table.specs.declared.TemplateRecord.{TemplateRecord}
 use Rattle.table.specs.Layout.{limitsOf, heldCount, entryCount, chanceCount, entriesAt, recordsAt}
 use Rattle.table.specs.Table.{tableOf, entriesFrom, recordsFrom, records, index, tally}
-use Rattle.table.proofs.Words.{length-entries, length-records}
-use Rattle.table.proofs.Facts.{All, all-map, Placed, LegalWords}
+use Rattle.table.proofs.Words.{length-records}
+use Rattle.table.proofs.Facts.{All, Placed, LegalWords}
 use Rattle.table_entries.specs.declared.StayTest.{StayTest}
+use Rattle.table_entries.specs.Sums.{heldSum}
 use Rattle.table_records.specs.Close.{closed}
 use Rattle.table_records.specs.Choose.{skipAll, skipping}
 use Rattle.cache_model.specs.Bodies.{Body, without}
 use Rattle.cache_model.specs.Cache.{Cache}
-use Rattle.cache_model.proofs.Limits as Limits
-use Rattle.cache_model.proofs.Calls.{limitsAlone, held-within}
 use Rattle.pending_flows.specs.Header.{figuresAt}
 use Rattle.pending_flows.specs.View.{bodiesAt, templatesAt, cacheOf}
 use Rattle.pending_flows.proofs.Figures.{rest-records}
 use Rattle.table_view.proofs.Tied.{Tied, words-tied, none-above}
-use Rattle.table_view.proofs.Swept.{Within, placed-within}
-use Rattle.table_view.proofs.Stored.{legal-limited}
-use Rattle.table_view.proofs.Removed.{everything, lenMost, length-summed, placed-short}
+use Rattle.table_view.proofs.Swept.{Within}
+use Rattle.table_view.proofs.Removed.{everything, lenMost, length-summed}
 use Rattle.pending_calls.specs.declared.removal.Removed.{Removed}
 use Rattle.pending_calls.specs.Removal.{counted, Removes}
-use Rattle.pending_calls.proofs.Removed.{TiedRowsApart, rows-left, placed-left, apart-left, rows-tied, rows-placed}
-use Rattle.pending_calls.proofs.Removed.{few-templates, few-bodies, total-short}
+use Rattle.pending_calls.proofs.Removed.{TiedRowsApart}
 use Rattle.pending_drain.specs.Handing.{zeros, unexpired, TakesOut}
 use Rattle.pending_drain.proofs.Handing.{length-zeros}
+use Rattle.pending_drain.proofs.LegalRows.{bodies-within, bodies-short, entries-few, handed-single, held-long}
+use Rattle.pending_drain.proofs.LegalRows.{held-limited, removed-tied, removed-below, removed-fits}
+use Rattle.pending_drain.proofs.LegalRows.{removed-placed, removed-apart}
 use Rattle.pending_drain.proofs.HeldLabels.{heldLabel}
 use Rattle.pending_drain.proofs.DrainedRows as Rows
 
@@ -82,34 +82,16 @@ module _ (w b : List ℕ) (i now : ℕ) where
     tied = words-tied w (length b) legal
 
     within : Within (length b) es
-    within =
-        all-map (λ e. e .place + e .len ≤ l .«max_total_bytes») (λ e. e .place + e .len ≤ length b)
-        (λ e h. omega (arith, legal .limits-legal .bytes-enough)) es
-        (placed-within 0 (l .«max_total_bytes») es (legal .table-legal .entries-placed))
+    within = bodies-within w b legal
 
     short : All (λ e. e .len ≤ lenMost) es
-    short =
-        placed-short 0 (l .«max_total_bytes») lenMost es (total-short w (length b) legal)
-        (legal .table-legal .entries-placed)
+    short = bodies-short w b legal
 
     few : length es ≤ skipAll
-    few =
-        omega (
-          arith,
-          legal .entries-fit,
-          legal .limits-legal .bodies-few,
-          length-entries w entriesAt (entryCount w),
-        )
+    few = entries-few w b legal
 
     single : length handed ≤ 1
-    single =
-        omega (arith, legal .chance-flag, length-drop n (records w), length-records w p (n + chanceCount w))
-
-    held-long : length held ≡ n
-    held-long = length-take-le n (records w) (omega (arith, length-records w p (n + chanceCount w)))
-
-    held-limited : Limits.Within l limitsAlone [] (cache .held)
-    held-limited = held-within cache (legal-limited w b legal)
+    single = handed-single w b legal
 
     module _ {w′ : List ℕ} {r : Removed} (taken : TakesOut (l .ttl) now label p (figuresAt w) w w′ r) where
       out : Removes test p (n + chanceCount w) (entryCount w) label (skipping zeros handed) zeros w w′ kept r
@@ -130,20 +112,22 @@ module _ (w b : List ℕ) (i now : ℕ) where
           ∙ ap (closed kept) (sym (take-append-drop n (records w)))
 
       pub out-tied : TiedRowsApart label p (r .records) (r .entries) w′
-      out-tied =
-          rows-left (rows-tied w (length b) legal) (l .«max_total_bytes») (rows-placed w (length b) legal)
-          (few-templates w (length b) legal) (few-bodies w (length b) legal) (total-short w (length b) legal) out
+      out-tied = removed-tied w b legal out
+
+      pub out-below : entriesAt + entryWords * r .entries ≤ p
+      out-below = removed-below w b legal out
+
+      pub out-fits : (skipped : ℕ) → heldSum skipped es′ ≤ 18446744073709551615
+      out-fits = removed-fits w b legal out
 
       pub out-placed : Placed 0 (l .«max_total_bytes») es′
-      out-placed =
-          placed-left (rows-tied w (length b) legal) (l .«max_total_bytes») (rows-placed w (length b) legal)
-          (few-templates w (length b) legal) (few-bodies w (length b) legal) (total-short w (length b) legal) out
+      out-placed = removed-placed w b legal out
 
       pub out-templates : templatesAt b es′ rs′ ≡ without i (cache .held)
       out-templates =
           rw (entries-are, records-are)
-          (Rows.drained-templates b (l .ttl) i now held handed es tied within short few single (held-limited .differ)
-          (held-limited .filled))
+          (Rows.drained-templates b (l .ttl) i now held handed es tied within short few single
+          (held-limited w b legal .differ) (held-limited w b legal .filled))
 
       pub out-live : bodiesAt b label es′ ≡ live
       out-live =
@@ -171,8 +155,7 @@ module _ (w b : List ℕ) (i now : ℕ) where
               List·getD-eq-default {A = ℕ} (counted zeros left) 0 {n = label} (omega (arith, long, length-zeros)) in
               out .bodies-apart ∙ none ∙ sym (ap (λ (k : ℕ). tally k es′) d ∙ none-above es′ (out-tied .entries-small))
           by-label (no d) =
-              apart-left (rows-tied w (length b) legal) (l .«max_total_bytes») (rows-placed w (length b) legal)
-              (few-templates w (length b) legal) (few-bodies w (length b) legal) (total-short w (length b) legal) out
+              removed-apart w b legal out
               (omega (arith, Rows.drained-most b (l .ttl) i now held handed es tied within short few single))
 
       -- where there are such, a record less is held
@@ -180,5 +163,5 @@ module _ (w b : List ℕ) (i now : ℕ) where
       out-fewer some =
           let bodies : 0 < tally label es′ = omega (arith, out-apart) in
           let fewer = Rows.drained-fewer b (l .ttl) i now held handed es tied within short few single
-          (held-limited .differ) (held-limited .filled) (rw entries-are at bodies) in
-          omega (arith, fewer, held-long, ap length records-are, length-records w′ p (r .records))
+          (held-limited w b legal .differ) (held-limited w b legal .filled) (rw entries-are at bodies) in
+          omega (arith, fewer, held-long w b legal, ap length records-are, length-records w′ p (r .records))

@@ -6,3 +6,4 @@ pub use draining::DrainAnswer;
 pub use draining::drain;
 pub use restoring::PutBackAnswer;
 pub use restoring::PutBackRefusal;
+pub use restoring::restore_replay_suffix;

@@ -1,7 +1,8 @@
 use mathlib.Core.Path.{_∙_}
 use Rattle.pending_flows.proofs.Questions.{bodies-few}
 use Rattle.pending_calls.proofs.Performed.{header-within}
-use Rattle.pending_drain.proofs.Drains.{held-room, rows-room, records-few, hand-ready, Settling, settling}
+use Rattle.pending_drain.proofs.AsRead.{held-room, rows-room, records-few}
+use Rattle.pending_drain.proofs.Drains.{hand-ready, Settling, settling}
 use Rattle.pending_drain.proofs.Drains.{drain-done}
 use borrow.Author.Needs.{needs}
 use Rattle.pending_drain.proofs.draining.drain_cache.Statement.{statement}
