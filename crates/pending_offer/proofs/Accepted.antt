@@ -254,7 +254,8 @@ module _ {w b : List ℕ} {l′ : PendingFlowsConfig} {i : ℕ} {body : List ℕ
 
   -- the bodies of a label then
   bodies-after : (k : ℕ) → bodiesAt bytes-after k entries-after ≡ bodiesAt b k es ++ cond (eqb k a) (x ∷ []) []
-  bodies-after k = appended-bodies roomy body k roomy-entries e refl body-within (made .placed) ∙ rw (made .same-bodies k)
+  bodies-after k =
+      appended-bodies roomy body k roomy-entries e refl body-within (made .placed) ∙ rw (made .same-bodies k)
 
   pub held-after : templatesAt bytes-after entries-after (rs ++ (r ∷ [])) ≡ held
   held-after =
