@@ -18,7 +18,7 @@ use Rattle.table.specs.Layout.{limitsOf, heldCount, entryCount, chanceCount, en
 use Rattle.table.specs.Table.{Table, tableOf, entriesFrom, recordsFrom, indexFrom, hasLabel, tally, sumLens}
 use Rattle.table.specs.WellFormed.{wellFormed}
 use Rattle.table.proofs.Words.{length-records, length-entries}
-use Rattle.table.proofs.Facts.{all-map, Placed, LegalWords, words-say}
+use Rattle.table.proofs.Facts.{All, all-map, Placed, LegalWords, words-say}
 use Rattle.table.proofs.Labels.{absent-says}
 use Rattle.table_entries.specs.Sums.{heldSum}
 use Rattle.table_entries.specs.Pack.{packedEnd}
@@ -48,12 +48,12 @@ use Rattle.pending_calls.proofs.Removed.{zeros}
 use Rattle.pending_offer.specs.declared.plan.OfferPlan.{OfferPlan}
 use Rattle.pending_offer.specs.Promises.{bodyOf}
 use Rattle.pending_offer.specs.Plan.{planTest, Plans}
-use Rattle.pending_offer.specs.Room.{roomEntries, roomBytes, roomPlace, newEntry}
+use Rattle.pending_offer.specs.Room.{roomEntries, roomBytes, roomPlace, newEntry, chosenLabel}
 use Rattle.pending_offer.proofs.Rooms.{Room, room-made}
 use Rattle.pending_offer.proofs.Settled.{outcome, settled-limited}
 use Rattle.pending_offer.proofs.Left.{left-placed}
 use Rattle.pending_offer.proofs.Outcomes.{leaves, others, accepted-held}
-use Rattle.pending_offer.proofs.Labels.{Chosen, others-left, fresh-left}
+use Rattle.pending_offer.proofs.Labels.{Chosen, others-left, fresh-left, few-left, label-chosen}
 
 -- an entry whose label is a record's, or the one apart, has a record once the label has one
 known-more : (a : ℕ) (rs : List TemplateRecord) (r : TemplateRecord) → r .label ≡ a → (e : Entry) →
@@ -88,19 +88,30 @@ lens-apart {a} {rs} {es} b most h placed lent small =
       sum-templates size (templatesAt b es rs) (templateAt b es r ∷ []),
     )
 
-module _ (w b : List ℕ) (ok : wellFormed w (length b) ≡ true) (i : ℕ) (body : List ℕ) (clock : ℕ)
-    (small : length body ≤ limitsOf w .«max_entry_size_bytes») {skip : List ℕ} {plan : OfferPlan}
-    (plans : Plans w b i (length body) clock skip plan) (room : plan .full ≡ false) {w₁ kept₁ : List ℕ} {left : Removed}
-    (done : Removes (planTest (limitsOf w) clock plan) (recordsAt (limitsOf w)) (heldCount w + chanceCount w)
-    (entryCount w) (plan .label) skip zeros w w₁ kept₁ left) where
-  legal : LegalWords w (length b)
-  legal = words-say w (length b) ok
+-- The words w, the bytes b and the limits l′ before the offer of a body under the id i; the plan; the words that the
+-- removal leaves; the label that is chosen.
+pub record Accepting (w b : List ℕ) (l′ : PendingFlowsConfig) (i : ℕ) (body : List ℕ) (clock : ℕ) (plan : OfferPlan)
+    (w₁ : List ℕ) (left : Removed) (a : ℕ) : Type 0 where
+  pub skip : List ℕ  -- how many bodies of each label the plan skips
+  pub kept : List ℕ  -- how many of each label the removal leaves
+  pub ok : wellFormed w (length b) ≡ true
+  pub limits : l′ ≡ limitsOf w
+  pub id : i < 65536
+  pub small : length body ≤ limitsOf w .«max_entry_size_bytes»
+  pub plans : Plans w b i (length body) clock skip plan
+  pub room : plan .full ≡ false
+  pub removed : Removes (planTest (limitsOf w) clock plan) (recordsAt (limitsOf w)) (heldCount w + chanceCount w)
+      (entryCount w) (plan .label) skip zeros w w₁ kept left
+  pub long : length w₁ ≡ length w
+  pub label : a ≡ chosenLabel (plan .label) kept
 
-  abbrev l : PendingFlowsConfig
-  l = limitsOf w
+module _ {w b : List ℕ} {l′ : PendingFlowsConfig} {i : ℕ} {body : List ℕ} {clock : ℕ} {plan : OfferPlan}
+    {w₁ : List ℕ} {left : Removed} {a : ℕ} (known : Accepting w b l′ i body clock plan w₁ left a) where
+  legal : LegalWords w (length b)
+  legal = words-say w (length b) (known .ok)
 
   abbrev most : ℕ
-  most = l .«max_total_bytes»
+  most = limitsOf w .«max_total_bytes»
 
   abbrev x : Body
   x = bodyOf body clock
@@ -108,152 +119,179 @@ module _ (w b : List ℕ) (ok : wellFormed w (length b) ≡ true) (i : ℕ) (bod
   abbrev ts : List Template
   ts = cacheOf (tableOf w) b .held
 
+  -- what the plan leaves of the id's bodies, and what it leaves of the other ids' templates
   abbrev own : List Body
-  own = leaves w b ok i x small i (bodiesOf i ts)
+  own = leaves w b (known .ok) i x (known .small) i (bodiesOf i ts)
 
+  abbrev rest : List Template
+  rest = thinned (others w b (known .ok) i x (known .small)) ts
+
+  abbrev newest : Template
+  newest = record { id = i; bodies = own ++ (x ∷ []) }
+
+  -- what is held afterwards by the definition
+  abbrev held : List Template
+  held = outcome w b (known .ok) i x (known .small) .left .held
+
+  held-is : held ≡ rest ++ (newest ∷ [])
+  held-is = accepted-held w b (known .ok) i x (known .small) (known .plans) (known .room)
+
+  -- the rows that the removal leaves
   abbrev es : List Entry
   es = entriesFrom w₁ entriesAt (left .entries)
 
   abbrev rs : List TemplateRecord
-  rs = recordsFrom w₁ (recordsAt l) (left .records)
+  rs = recordsFrom w₁ (recordsAt (limitsOf w)) (left .records)
 
   abbrev is : List ℕ
-  is = indexFrom w₁ (recordsAt l) (left .records)
+  is = indexFrom w₁ (recordsAt (limitsOf w)) (left .records)
 
-  abbrev held : List Template
-  held = outcome w b ok i x small .left .held
+  pub placed-before : Placed 0 most es
+  placed-before = left-placed w b (known .ok) i clock (length body) (plan .label) (known .plans) (known .removed)
 
-  placed : Placed 0 most es
-  placed = left-placed w b ok i clock (length body) (plan .label) plans done
+  pub chosen : Chosen (recordsAt (limitsOf w)) left w₁ b own a
+  chosen = label-chosen w b (known .ok) i x (known .small) (known .plans) (known .room) (known .removed) (known .label)
 
-  held-is : held ≡ thinned (others w b ok i x small) ts ++ (record { id = i; bodies = own ++ (x ∷ []) } ∷ [])
-  held-is = accepted-held w b ok i x small plans room
+  rest-is : templatesAt b es rs ≡ rest
+  rest-is = others-left w b (known .ok) i x (known .small) (known .plans) (known .room) (known .removed)
 
-  module _ (a : ℕ) (chosen : Chosen (recordsAt l) left w₁ b own a) where
-    -- all bodies together leave room for the new one
-    pub body-room : packedEnd 0 es + length body ≤ most
-    unfolding settled
-    body-room =
-        let fs = others w b ok i x small in
-        omega (
-          arith,
-          settled-limited w b ok i x small .within .room,
-          packed-end 0 es,
-          lens-apart b most (chosen .tied) placed (legal .limits-legal .bytes-enough) (chosen .below),
-          ap (sumTemplates size) (others-left w b ok i x small plans room done),
-          ap (sumBodies size) (chosen .bodies),
-          ap (sumTemplates size) held-is,
-          sum-templates size held [],
-          sum-templates size (thinned fs ts) (record { id = i; bodies = own ++ (x ∷ []) } ∷ []),
-          sum-append size own (x ∷ []),
-        )
+  fresh : All (λ u. u .key ≢ i) rs
+  fresh = fresh-left w b (known .ok) i x (known .small) (known .plans) (known .room) (known .removed)
 
-    -- the rows with the body behind the others, and its template's record newest
-    abbrev place : ℕ
-    place = roomPlace (length body) most es
+  pub records-few : left .records < limitsOf w .«max_pending_flows»
+  records-few = few-left w b (known .ok) i x (known .small) (known .plans) (known .room) (known .removed)
 
-    abbrev b₂ : List ℕ
-    b₂ = roomBytes (length body) most es b
+  -- all bodies together leave room for the new one
+  pub body-room : packedEnd 0 es + length body ≤ most
+  unfolding settled
+  body-room =
+      omega (
+        arith,
+        settled-limited w b (known .ok) i x (known .small) .within .room,
+        packed-end 0 es,
+        lens-apart b most (chosen .tied) placed-before (legal .limits-legal .bytes-enough) (chosen .below),
+        ap (sumTemplates size) rest-is,
+        ap (sumBodies size) (chosen .bodies),
+        ap (sumTemplates size) held-is,
+        sum-templates size held [],
+        sum-templates size rest (newest ∷ []),
+        sum-append size own (x ∷ []),
+      )
 
-    abbrev es₂ : List Entry
-    es₂ = roomEntries (length body) most es
+  -- the rows with the body behind the others, and its template's record newest
+  abbrev place : ℕ
+  place = roomPlace (length body) most es
 
-    abbrev e : Entry
-    e = newEntry l a body clock es
+  abbrev roomy : List ℕ
+  roomy = roomBytes (length body) most es b
 
-    abbrev pub es₃ : List Entry
-    es₃ = es₂ ++ (e ∷ [])
+  abbrev roomy-entries : List Entry
+  roomy-entries = roomEntries (length body) most es
 
-    abbrev pub b₃ : List ℕ
-    b₃ = putAt place body b₂
+  abbrev e : Entry
+  e = newEntry (limitsOf w) a body clock es
 
-    abbrev pub r : TemplateRecord
-    r = record { key = i; label = a; count = left .apart + 1 }
+  abbrev entries-after : List Entry
+  entries-after = roomy-entries ++ (e ∷ [])
 
-    made : Room (length body) most es b es₂ b₂ place
-    made = room-made (length body) most es b placed (legal .limits-legal .bytes-enough) body-room
+  abbrev bytes-after : List ℕ
+  bytes-after = putAt place body roomy
 
-    apart₂ : TiedApart a rs es₂ is
-    apart₂ = same-labels-apart es es₂ (made .same-labels) (chosen .tied)
+  abbrev r : TemplateRecord
+  r = record { key = i; label = a; count = left .apart + 1 }
 
-    apart₃ : TiedApart a rs es₃ is
-    apart₃ = appended-apart apart₂ e refl (chosen .below)
+  abbrev index-after : List ℕ
+  index-after = inserted rs i (left .records) is
 
-    counts : left .apart + 1 ≡ tally a es₃
-    counts = omega (arith, chosen .count, appended-tally apart₂ e refl, same-tally es es₂ (made .same-labels) a)
+  made : Room (length body) most es b roomy-entries roomy place
+  made = room-made (length body) most es b placed-before (legal .limits-legal .bytes-enough) body-room
 
-    -- as many entries as before, and one
-    pub one-more : length es₃ ≡ left .entries + 1
-    one-more =
-        let same : length es₂ ≡ length es = sym (length-map es₂ _) ∙ ap length (made .same-labels) ∙ length-map es _ in
-        omega (arith, length-append es₂ (e ∷ []), length-entries w₁ entriesAt (left .entries))
+  apart-before : TiedApart a rs roomy-entries is
+  apart-before = same-labels-apart es roomy-entries (made .same-labels) (chosen .tied)
 
-    pub tied₃ : i < 65536 → Tied (rs ++ (r ∷ [])) es₃ (inserted rs i (left .records) is)
-    tied₃ id =
-        let n : length rs ≡ left .records = length-records w₁ (recordsAt l) (left .records) in
-        let new = newRecord i a es₃ in
-        let same : new ≡ r = λ j. record { key = i; label = a; count = sym counts j } in
-        let fresh = fresh-left w b ok i x small plans room done in
-        let index = index-after-adding rs new is (chosen .tied .index-right)
-        (all-map (λ u. u .key ≢ i) (λ u. i ≢ u .key) (λ u d f. d (sym f)) rs fresh) in
-        subst (λ (u : TemplateRecord). Tied (rs ++ (u ∷ [])) es₃ (inserted rs i (left .records) is)) same
-        (subst (λ (k : ℕ). Tied (rs ++ (new ∷ [])) es₃ (inserted rs i k is)) n
-        (added-tied apart₃ i id (chosen .below) fresh (omega (arith, counts)) (index .0)
-        (omega (arith, index .1, chosen .tied .index-long, length-append rs (new ∷ [])))))
+  apart-after : TiedApart a rs entries-after is
+  apart-after = appended-apart apart-before e refl (chosen .below)
 
-    pub placed₃ : Placed 0 most es₃
-    placed₃ = appended-placed 0 most es₂ e (made .placed) (omega arith) (made .fits)
+  counts : left .apart + 1 ≡ tally a entries-after
+  counts =
+      omega (
+        arith,
+        chosen .count,
+        appended-tally apart-before e refl,
+        same-tally es roomy-entries (made .same-labels) a,
+      )
 
-    fits₂ : place + length body ≤ length b₂
-    fits₂ = omega (arith, made .fits, made .long, legal .limits-legal .bytes-enough)
+  -- as many entries as before, and one
+  pub one-more : length entries-after ≡ left .entries + 1
+  one-more =
+      let same : length roomy-entries ≡ length es =
+      sym (length-map roomy-entries _) ∙ ap length (made .same-labels) ∙ length-map es _ in
+      omega (arith, length-append roomy-entries (e ∷ []), length-entries w₁ entriesAt (left .entries))
 
-    pub long₃ : length b₃ ≡ length b
-    long₃ = put-long place body b₂ fits₂ ∙ made .long
+  pub tied-after : Tied (rs ++ (r ∷ [])) entries-after index-after
+  tied-after =
+      let n : length rs ≡ left .records = length-records w₁ (recordsAt (limitsOf w)) (left .records) in
+      let new = newRecord i a entries-after in
+      let same : new ≡ r = λ j. record { key = i; label = a; count = sym counts j } in
+      let index = index-after-adding rs new is (chosen .tied .index-right)
+      (all-map (λ u. u .key ≢ i) (λ u. i ≢ u .key) (λ u d f. d (sym f)) rs fresh) in
+      subst (λ (u : TemplateRecord). Tied (rs ++ (u ∷ [])) entries-after index-after) same
+      (subst (λ (k : ℕ). Tied (rs ++ (new ∷ [])) entries-after (inserted rs i k is)) n
+      (added-tied apart-after i (known .id) (chosen .below) fresh (omega (arith, counts)) (index .0)
+      (omega (arith, index .1, chosen .tied .index-long, length-append rs (new ∷ [])))))
 
-    pub behind₃ : drop most b₃ ≡ drop most b
-    behind₃ = put-drop place body b₂ fits₂ most (made .fits) ∙ made .behind
+  pub placed-after : Placed 0 most entries-after
+  placed-after = appended-placed 0 most roomy-entries e (made .placed) (omega arith) (made .fits)
 
-    -- the bodies of a label then
-    bodies₃ : (k : ℕ) → bodiesAt b₃ k es₃ ≡ bodiesAt b k es ++ cond (eqb k a) (x ∷ []) []
-    bodies₃ k = appended-bodies b₂ body k es₂ e refl fits₂ (made .placed) ∙ rw (made .same-bodies k)
+  body-within : place + length body ≤ length roomy
+  body-within = omega (arith, made .fits, made .long, legal .limits-legal .bytes-enough)
 
-    pub held₃ : templatesAt b₃ es₃ (rs ++ (r ∷ [])) ≡ held
-    held₃ =
-        let others-same : templatesAt b₃ es₃ rs ≡ templatesAt b es rs =
-        same-templates b₃ b es₃ es rs
-        (all-map {A = TemplateRecord} (λ u. a ≢ u .label) (λ u. bodiesAt b₃ (u .label) es₃ ≡ bodiesAt b (u .label) es)
-        (λ u d. bodies₃ (u .label) ∙ rw (ne-eqb (u .label) a (λ f. d (sym f))) (append-nil (bodiesAt b (u .label) es)))
-        rs (absent-says a rs (chosen .tied .label-apart))) in
-        let own-more : bodiesAt b₃ a es₃ ≡ own ++ (x ∷ []) = bodies₃ a ∙ rw (eq-eqb a a refl, chosen .bodies) in
-        templates-append b₃ es₃ rs (r ∷ [])
-        ∙ rw (others-same, own-more, others-left w b ok i x small plans room done) (sym held-is)
+  pub bytes-long : length bytes-after ≡ length b
+  bytes-long = put-long place body roomy body-within ∙ made .long
 
-    -- so the limits leave room for it
-    module _ (id : i < 65536) where
-      abbrev table : Table
-      table = record {
-        limits = l;
-        cached = 0;
-        dropped = 0;
-        total = sumLens (rs ++ (r ∷ [])) es₃;
-        held = rs ++ (r ∷ []);
-        handed = [];
-        entries = es₃;
-      }
+  pub bytes-behind : drop most bytes-after ≡ drop most b
+  bytes-behind = put-drop place body roomy body-within most (made .fits) ∙ made .behind
 
-      table-limited : Limited (cacheOf table b₃)
-      unfolding settled
-      table-limited =
-          let after = settled-limited w b ok i x small in
-          record { legal = after .legal; within = rw held₃ (after .within) }
+  -- the bodies of a label then
+  bodies-after : (k : ℕ) → bodiesAt bytes-after k entries-after ≡ bodiesAt b k es ++ cond (eqb k a) (x ∷ []) []
+  bodies-after k =
+      appended-bodies roomy body k roomy-entries e refl body-within (made .placed) ∙ rw (made .same-bodies k)
 
-      pub entries-few : left .entries < maxBodies l
-      entries-few =
-          let tied : Tied ((rs ++ (r ∷ [])) ++ []) es₃ (inserted rs i (left .records) is) =
-          rw (append-nil (rs ++ (r ∷ []))) (tied₃ id) in
-          let lent : most ≤ length b₃ = omega (arith, long₃, legal .limits-legal .bytes-enough) in
-          omega (
-            arith,
-            tied-legal table b₃ (inserted rs i (left .records) is) tied placed₃ lent refl (omega arith) table-limited .2,
-            one-more,
-          )
+  pub held-after : templatesAt bytes-after entries-after (rs ++ (r ∷ [])) ≡ held
+  held-after =
+      let rest-same : templatesAt bytes-after entries-after rs ≡ templatesAt b es rs =
+      same-templates bytes-after b entries-after es rs
+      (all-map {A = TemplateRecord} (λ u. a ≢ u .label)
+      (λ u. bodiesAt bytes-after (u .label) entries-after ≡ bodiesAt b (u .label) es)
+      (λ u d. bodies-after (u .label)
+      ∙ rw (ne-eqb (u .label) a (λ f. d (sym f))) (append-nil (bodiesAt b (u .label) es)))
+      rs (absent-says a rs (chosen .tied .label-apart))) in
+      let own-more : bodiesAt bytes-after a entries-after ≡ own ++ (x ∷ []) =
+      bodies-after a ∙ rw (eq-eqb a a refl, chosen .bodies) in
+      templates-append bytes-after entries-after rs (r ∷ []) ∙ rw (rest-same, own-more, rest-is) (sym held-is)
+
+  -- so the limits leave room for it
+  abbrev table : Table
+  table = record {
+    limits = limitsOf w;
+    cached = 0;
+    dropped = 0;
+    total = sumLens (rs ++ (r ∷ [])) entries-after;
+    held = rs ++ (r ∷ []);
+    handed = [];
+    entries = entries-after;
+  }
+
+  table-limited : Limited (cacheOf table bytes-after)
+  unfolding settled
+  table-limited =
+      let after = settled-limited w b (known .ok) i x (known .small) in
+      record { legal = after .legal; within = rw held-after (after .within) }
+
+  pub entries-few : left .entries < maxBodies (limitsOf w)
+  entries-few =
+      let tied : Tied ((rs ++ (r ∷ [])) ++ []) entries-after index-after =
+      rw (append-nil (rs ++ (r ∷ []))) tied-after in
+      let lent : most ≤ length bytes-after = omega (arith, bytes-long, legal .limits-legal .bytes-enough) in
+      let holds = tied-legal table bytes-after index-after tied placed-after lent refl (omega arith) table-limited in
+      omega (arith, holds .2, one-more)

@@ -76,8 +76,9 @@ module _ (w b : List ℕ) (ok : wellFormed w (length b) ≡ true) (f : HeaderFig
       held-rest = bodies-left (r .count) handed-is
 
 -- the header that is written, with the counters raised and the bytes summed
-pub header-settled : (w : List ℕ) (l : PendingFlowsConfig) (f : HeaderFigures) (cached dropped total templates entries : ℕ)
-    {c d t : ℕ} {w′ : List ℕ} → c ≡ raised (f .cached) cached → d ≡ raised (f .dropped) dropped → t ≡ total →
+pub header-settled : (w : List ℕ) (l : PendingFlowsConfig) (f : HeaderFigures)
+    (cached dropped total templates entries : ℕ) {c d t : ℕ} {w′ : List ℕ} → c ≡ raised (f .cached) cached →
+    d ≡ raised (f .dropped) dropped → t ≡ total →
     w′ ≡ overwritten w (headerOf l (record {
       cached = c;
       dropped = d;

@@ -128,7 +128,8 @@ module _ (w b : List ℕ) (ok : wellFormed w (length b) ≡ true) (i : ℕ) (x :
       (bodies-left w b ok (x .clock) skip plan i (size x) plans x refl)
       (rw (no-bodies b 1024 stay none-stay, no-bodies b 1024 entries none-before)
       (sym (leaves-nothing w b ok i x small))) in
-      ap (λ (k : ℕ). bodiesAt b k stay) (plans .label) ∙ own ∙ ap (f i) (sym (found-bodies i b entries held none-before))
+      ap (λ (k : ℕ). bodiesAt b k stay) (plans .label) ∙ own
+      ∙ ap (f i) (sym (found-bodies i b entries held none-before))
 
   -- no record that remains has the id
   keys-fresh : All (λ u. u .key ≢ i) (closed (labelCountsBut (plan .label) stay) held)

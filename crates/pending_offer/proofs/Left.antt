@@ -37,8 +37,8 @@ use Rattle.table_view.proofs.Closed.{Left, closed-templates, closed-append, clo
 use Rattle.table_view.proofs.Removed.{lenMost, labelCounts, labelCountsBut, label-counts, none-set, placed-short}
 use Rattle.pending_calls.specs.declared.removal.Removed.{Removed}
 use Rattle.pending_calls.specs.Removal.{Removes}
-use Rattle.pending_calls.proofs.Removed.{zeros, TiedRowsApart, placed-left, apart-left, rows-left, rows-tied, rows-placed}
-use Rattle.pending_calls.proofs.Removed.{few-templates, few-bodies, total-short}
+use Rattle.pending_calls.proofs.Removed.{zeros, TiedRowsApart, placed-left, apart-left, rows-left, rows-tied}
+use Rattle.pending_calls.proofs.Removed.{rows-placed, few-templates, few-bodies, total-short}
 use Rattle.pending_offer.specs.declared.plan.OfferPlan.{OfferPlan}
 use Rattle.pending_offer.specs.Plan.{planTest, Plans}
 use Rattle.pending_offer.proofs.PlanLabels.{all-front, all-back}
@@ -123,8 +123,8 @@ module _ (w b : List ℕ) (ok : wellFormed w (length b) ≡ true) (clock : ℕ) 
       bodies-left =
           let q = planTest (limitsOf w) clock plan in
           all-both Legal _ (λ u. bodiesAt b (u .label) stay ≡ leaves (u .key) (bodiesAt b (u .label) entries))
-          (λ u h thins. swept-bodies b q (u .label) skip entries (omega (arith, h .label-small, plans .long)) lies-within
-          ∙ thins) held held-legal (plans .thins x sized)
+          (λ u h thins. swept-bodies b q (u .label) skip entries (omega (arith, h .label-small, plans .long))
+          lies-within ∙ thins) held held-legal (plans .thins x sized)
 
     -- the bodies of the label `apart` are not counted, and its record goes
     module _ (apart : ℕ) where
@@ -181,7 +181,8 @@ module _ (w b : List ℕ) (ok : wellFormed w (length b) ≡ true) (clock : ℕ) 
                 by-label (no d) =
                     let bodies : bodiesAt b (u .label) stay ≡ f (u .key) (bodiesAt b (u .label) entries) =
                     sym (is ∙ rw (ne-eqb apart (u .label) (λ e. d (sym e)))) in (
-                      kept-other (u .label) (h .label-small) d ∙ sym (length-bodies b (u .label) stay) ∙ ap length bodies,
+                      kept-other (u .label) (h .label-small) d ∙ sym (length-bodies b (u .label) stay)
+                          ∙ ap length bodies,
                       λ some. bodies,
                     )
 

@@ -16,7 +16,8 @@ use Rattle.cache_model.specs.Offer.{Verdict, accepted, refused}
 use Rattle.cache_model.proofs.Limits.{Within}
 use Rattle.cache_model.proofs.Calls.{limitsAlone, held-within}
 use Rattle.cache_model.proofs.Plans as Plans
-use Rattle.cache_model.proofs.Plans.{Plan, over, stayLive, heldAfter, thin, thinBy, offer-planned, others-planned, bodies-planned}
+use Rattle.cache_model.proofs.Plans.{Plan, over, stayLive, heldAfter, thin, thinBy, offer-planned, others-planned}
+use Rattle.cache_model.proofs.Plans.{bodies-planned}
 use Rattle.cache_model.proofs.Thinning.{thinned, hasId, firstId, none-either-way}
 use Rattle.pending_flows.specs.View.{cacheOf}
 use Rattle.table_view.proofs.Stored.{legal-limited}

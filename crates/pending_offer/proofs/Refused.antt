@@ -33,8 +33,8 @@ use Rattle.pending_offer.specs.Plan.{planTest, Plans}
 use Rattle.pending_offer.specs.Settle.{settledFigures}
 use Rattle.pending_offer.proofs.HeldBodies.{held-most}
 use Rattle.pending_offer.proofs.Settled.{sum-small, outcome, drops-counted, settled-does}
-use Rattle.pending_offer.proofs.Left.{held-legal, left-rows, left-placed, left-entries, left-records, left-behind}
-use Rattle.pending_offer.proofs.Left.{staying, bodies-left, templates-left}
+use Rattle.pending_offer.proofs.Left.{held-legal, left-rows, left-placed, left-entries, left-records}
+use Rattle.pending_offer.proofs.Left.{left-behind, staying, bodies-left, templates-left}
 use Rattle.pending_offer.proofs.Outcomes.{leaves, refused-verdict, refused-held}
 
 -- The words w, the bytes b and the limits l′ before the offer of a body under the id i; the plan; the words that the
@@ -132,5 +132,5 @@ module _ {w b : List ℕ} {l′ : PendingFlowsConfig} {i : ℕ} {body : List ℕ
         Does (offered i x) (cacheOf (tableOf w) b) (areasOf w b) (number 20) (areasOf w′ b)
     refused-does figures written =
         settled-does w b (known .ok) i x (known .small) verdict w₁ b (left .records) (left .entries)
-        (h - left .entries + 1) rows placed held-left (omega (arith, counted)) refl (known .long) (known .limits) figures
-        written refl (left-behind w b (known .ok) i clock (length body) 1024 (known .plans) (known .removed))
+        (h - left .entries + 1) rows placed held-left (omega (arith, counted)) refl (known .long) (known .limits)
+        figures written refl (left-behind w b (known .ok) i clock (length body) 1024 (known .plans) (known .removed))

@@ -38,8 +38,8 @@ module _ (w : List ℕ) (n : ℕ) (ok : wellFormed w n ≡ true) (f : HeaderFigu
     rows-within =
         rw (is, from, limits) (entries-below-records w n legal, records-within w n legal)
 
-    pub removed-planned : (clock apart : ℕ) (plan : OfferPlan) (t : StayTest) {skip kept w′ kept′ : List ℕ} {r : Removed} →
-        t ≡ planTest l clock plan → kept ≡ replicate 1024 0 →
+    pub removed-planned : (clock apart : ℕ) (plan : OfferPlan) (t : StayTest) {skip kept w′ kept′ : List ℕ}
+        {r : Removed} → t ≡ planTest l clock plan → kept ≡ replicate 1024 0 →
         Removes t p (f .templates + f .chance) (f .entries) apart skip kept w w′ kept′ r →
         Removes (planTest (limitsOf w) clock plan) (recordsAt (limitsOf w)) (heldCount w + chanceCount w)
         (entryCount w) apart skip (replicate 1024 0) w w′ kept′ r

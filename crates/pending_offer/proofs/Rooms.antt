@@ -55,7 +55,13 @@ module _ (m len most : ℕ) (w b : List ℕ) where
   room-packed end r w′ b′ is h p =
       let es = entriesFrom w entriesAt m in
       let t = lt-leb (lastEnd es + len) most (omega (arith, is)) in
-      record { entries = rw t (p .entries); bytes = rw t (p .bytes); place = rw t (p .end); head = p .head; tail = p .tail }
+      record {
+        entries = rw t (p .entries);
+        bytes = rw t (p .bytes);
+        place = rw t (p .end);
+        head = p .head;
+        tail = p .tail;
+      }
 
 -- an entry stored behind m others
 module _ (m : ℕ) (e : Entry) (body w b : List ℕ) (room : entriesAt + entryWords * (m + 1) ≤ length w) where
@@ -88,7 +94,8 @@ packed-labels at [] = refl
 packed-labels at (e ∷ es) = ap (λ (ks : List ℕ). e .label ∷ ks) (packed-labels (at + e .len) es)
 
 -- What making room leaves: the same labels and bodies, and a place for a body of this length.
-pub record Room (len most : ℕ) (es : List Entry) (b : List ℕ) (es′ : List Entry) (b′ : List ℕ) (place : ℕ) : Type 0 where
+pub record Room (len most : ℕ) (es : List Entry) (b : List ℕ) (es′ : List Entry) (b′ : List ℕ) (place : ℕ)
+    : Type 0 where
   pub same-labels : labelsOf es′ ≡ labelsOf es
   pub same-bodies : (k : ℕ) → bodiesAt b′ k es′ ≡ bodiesAt b k es
   pub placed : Placed 0 place es′

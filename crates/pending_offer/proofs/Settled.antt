@@ -25,7 +25,8 @@ use Rattle.table_entries.proofs.Lengths.{held-all, lens-within}
 use Rattle.table_records.proofs.Frames.{records-above}
 use Rattle.cache_model.specs.Bodies.{Body, Template, size, expired, allBodies}
 use Rattle.cache_model.specs.Cache.{Cache, Outcome, raised}
-use Rattle.cache_model.specs.Offer.{Verdict, Offered, acceptedBodies, refusalDrops, verdictAnswer, steps2to5, settled, offered}
+use Rattle.cache_model.specs.Offer.{Verdict, Offered, acceptedBodies, refusalDrops, verdictAnswer, steps2to5}
+use Rattle.cache_model.specs.Offer.{settled, offered}
 use Rattle.cache_model.proofs.Calls.{Limited, limited, settled-within}
 use Rattle.cache_model.proofs.Drops.{offer-drops}
 use Rattle.pending_flows.specs.View.{areasOf, cacheOf, view, templatesAt, chanceAt}
@@ -52,8 +53,8 @@ lens-held {rs} {es} tied =
     (λ e known _. known) es (tied .labels-known))
 
 -- and no longer than the bytes that are lent
-pub sum-small : {rs : List TemplateRecord} {es : List Entry} {is : List ℕ} (most : ℕ) → most ≤ 67108864 → Tied rs es is →
-    Placed 0 most es → heldSum 1024 es ≤ 18446744073709551615
+pub sum-small : {rs : List TemplateRecord} {es : List Entry} {is : List ℕ} (most : ℕ) → most ≤ 67108864 →
+    Tied rs es is → Placed 0 most es → heldSum 1024 es ≤ 18446744073709551615
 sum-small {rs} {es} most small tied placed =
     omega (
       arith,
@@ -64,7 +65,8 @@ sum-small {rs} {es} most small tied placed =
 -- a header over rows that no template is handed out from
 module _ (l : PendingFlowsConfig) (f : HeaderFigures) (w : List ℕ) where
   pub header-stored : f .chance ≡ 0 → Stored l (f .cached) (f .dropped) (f .total) (f .templates) (f .entries) 0
-      (recordsFrom w (recordsAt l) (f .templates)) (entriesFrom w entriesAt (f .entries)) (indexFrom w (recordsAt l) (f .templates)) (headed l f w)
+      (recordsFrom w (recordsAt l) (f .templates)) (entriesFrom w entriesAt (f .entries))
+      (indexFrom w (recordsAt l) (f .templates)) (headed l f w)
   header-stored none =
       let words = headed l f w in
       let from = recordsAt l in
@@ -124,7 +126,8 @@ module _ (w b : List ℕ) (ok : wellFormed w (length b) ≡ true) (i : ℕ) (x :
         )
 
   -- rows that stand for what is left held, and the header over them
-  module _ {v : Verdict} (verdict : outcome .verdict ≡ v) (w₁ b′ : List ℕ) (k m gone : ℕ) (tied : TiedRows (recordsAt l) k m w₁)
+  module _ {v : Verdict} (verdict : outcome .verdict ≡ v) (w₁ b′ : List ℕ) (k m gone : ℕ)
+      (tied : TiedRows (recordsAt l) k m w₁)
       (placed : Placed 0 (l .«max_total_bytes») (entriesFrom w₁ entriesAt m))
       (left : templatesAt b′ (entriesFrom w₁ entriesAt m) (recordsFrom w₁ (recordsAt l) k) ≡ outcome .left .held)
       (drops : gone ≡ length (outcome .left .removed) + refusalDrops v)
@@ -164,7 +167,8 @@ module _ (w b : List ℕ) (ok : wellFormed w (length b) ≡ true) (i : ℕ) (x :
     settled-view =
         let long : length settledWords ≡ length w =
         headed-length l figures w₁ (omega (arith, legal .header-long)) ∙ words-long in
-        let limits : Config.LegalLimits l (length b′) (length settledWords) = rw (bytes-long, long) (legal .limits-legal) in
+        let limits : Config.LegalLimits l (length b′) (length settledWords) =
+        rw (bytes-long, long) (legal .limits-legal) in
         let total : heldSum 1024 es ≡ sumLens (take k rs) es = rw all-held (lens-held tied) in
         stored-view (header-stored l figures w₁ refl) b′ (omega arith) limits (omega (arith, legal .header-long)) tied
         placed total (subst Limited (sym settled-cache) settled-limited) .1

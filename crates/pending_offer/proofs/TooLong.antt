@@ -74,8 +74,8 @@ module _ (w b : List ℕ) (ok : wellFormed w (length b) ≡ true) where
   dropped-view =
       let long : length words ≡ length w = length-set w 7 dropped in
       let limits : Config.LegalLimits (limitsOf w) (length b) (length words) = rw long (legal .limits-legal) in
-      stored-view stored b (legal .chance-flag) limits (omega (arith, legal .header-long)) (rows-tied w (length b) legal)
-      (rows-placed w (length b) legal) (legal .table-legal .total-right)
+      stored-view stored b (legal .chance-flag) limits (omega (arith, legal .header-long))
+      (rows-tied w (length b) legal) (rows-placed w (length b) legal) (legal .table-legal .total-right)
       (refused-size-within (cacheOf (tableOf w) b) (legal-limited w b legal)) .1
 
   refused : (i : ℕ) (x : Body) → limitsOf w .«max_entry_size_bytes» < size x →

@@ -155,17 +155,9 @@ fn offer_body(words: &mut [u64], bytes: &mut [u8], id: u64, body: &[u8], clock: 
 {
     let limits = limits_at(words);
     let figures = figures_at(words);
+    let len = body.len();
     let mut skip = [0u32; LABELS];
-    let plan = plan_offer(
-        words,
-        bytes,
-        limits,
-        figures,
-        id,
-        body.len(),
-        clock,
-        &mut skip,
-    );
+    let plan = plan_offer(words, bytes, limits, figures, id, len, clock, &mut skip);
     if plan.full {
         let held = held_bodies(words, bytes, limits, figures);
         let mut kept = [0u32; LABELS];

@@ -1,6 +1,7 @@
 use mathlib.Core.Path.{refl, _∙_}
 use borrow.Author.Needs.{needs}
-use Rattle.pending_offer.proofs.Accepts.{Accepting, accepted-room, accepted-fewer, records-fit, entries-fit}
+use Rattle.pending_offer.proofs.Accepted.{Accepting}
+use Rattle.pending_offer.proofs.Accepts.{accepted-room, accepted-fewer, records-fit, entries-fit}
 use Rattle.pending_offer.proofs.Accepts.{accepted-settles, accepted-does}
 use Rattle.pending_offer.proofs.offering.accept.Statement.{statement}
 use Rattle.pending_offer.proofs.offering.accept.Tie as tie
