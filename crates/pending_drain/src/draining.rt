@@ -17,6 +17,7 @@ ghost use Rattle.pending_drain.specs.Promises.{Drains};
 use config::RECORD_WORDS;
 use config::Ttl;
 use pending_calls::Removed;
+use pending_calls::raised;
 use pending_calls::remove;
 use pending_flows::HeaderFigures;
 use pending_flows::figures_at;
@@ -39,17 +40,6 @@ pub enum DrainAnswer {
     HandedOut(usize),
     // number 28
     Damaged,
-}
-
-// A counter and n more; it stops at 2^64 - 1.
-fn raised(counter: u64, n: u64) -> u64
-    ensures { λ r. ⌜ r ≡ raised counter n ⌝ }
-{
-    let room = 18446744073709551615 - counter;
-    if room < n {
-        return 18446744073709551615;
-    }
-    counter + n
 }
 
 // The drops counted after a drain: the bodies that were held and are not left.

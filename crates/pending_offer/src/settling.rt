@@ -16,6 +16,7 @@ ghost use Rattle.pending_flows.specs.View.{cacheOf};
 ghost use Rattle.pending_offer.specs.Settle.{settledFigures};
 use config::PendingFlowsConfig;
 use config::RECORD_WORDS;
+use pending_calls::raised;
 use pending_flows::HeaderFigures;
 use pending_flows::write_header;
 use table::DROPPED;
@@ -23,16 +24,6 @@ use table::LABELS;
 use table::record_at;
 use table::records_at;
 use table_entries::held_bytes;
-
-// A counter and n more: it stops at the largest 64-bit number.
-fn raised(counter: u64, n: u64) -> u64
-    ensures { λ r. ⌜ r ≡ raised counter n ⌝ }
-{
-    if 18446744073709551615 - counter < n {
-        return 18446744073709551615;
-    }
-    counter + n
-}
 
 // Counts one more dropped body.
 pub fn count_drop(words: &mut [u64])

@@ -15,6 +15,7 @@ use config::ConfigAnswer;
 use config::ConfigRefusal;
 use config::PendingFlowsConfig;
 use config::RECORD_WORDS;
+use pending_calls::raised;
 use pending_flows::HeaderFigures;
 use pending_flows::figures_at;
 use pending_flows::write_header;
@@ -32,16 +33,6 @@ pub enum ResizeAnswer {
     Refused(ConfigRefusal),
     // number 28
     Damaged,
-}
-
-// A counter and n more; it stops at 2^64 - 1.
-fn raised(counter: u64, n: u64) -> u64
-    ensures { λ r. ⌜ r ≡ raised counter n ⌝ }
-{
-    if 18446744073709551615 - counter < n {
-        return 18446744073709551615;
-    }
-    counter + n
 }
 
 // How many bodies are handed out: those of the record behind the held ones, where there is one.
