@@ -1,11 +1,15 @@
 //! Runs the original Rust text beside what was ported from it. README.md has the commands.
 
 mod budget;
+mod cache;
+mod checks;
+mod clock;
 mod framing;
 mod numbers;
 #[cfg(feature = "live")]
 mod port;
 mod random;
+mod template_store;
 mod variable_versions;
 
 use std::process::ExitCode;
@@ -16,6 +20,10 @@ const USAGE: &str = "\
 usage: oracle record-framing FILE
        oracle record-budget FILE
        oracle stream-budget [SEED [COUNT]]
+       oracle record-cache FILE
+       oracle stream-cache [SEED [LISTS]]
+       oracle stream-cache-defaults [SEED [CALLS]]
+       oracle count-cache [SEED [LISTS]]
        oracle compare-framing [SEED [COUNT]]   (feature live)";
 
 fn main() -> ExitCode {
@@ -37,6 +45,19 @@ fn run(arguments: &[&str]) -> Result<ExitCode, String> {
         ["stream-budget", rest @ ..] => {
             let (seed, count) = seed_and_count(rest, budget::stream::DEFAULTS)?;
             budget::stream::run(seed, count)
+        }
+        ["record-cache", file] => cache::record::run(file),
+        ["stream-cache", rest @ ..] => {
+            let (seed, lists) = seed_and_count(rest, cache::stream::DEFAULTS)?;
+            cache::stream::run(seed, lists)
+        }
+        ["stream-cache-defaults", rest @ ..] => {
+            let (seed, calls) = seed_and_count(rest, cache::stream::DEFAULT_LIMITS_DEFAULTS)?;
+            cache::stream::run_default_limits(seed, calls)
+        }
+        ["count-cache", rest @ ..] => {
+            let (seed, lists) = seed_and_count(rest, cache::count::DEFAULTS)?;
+            cache::count::run(seed, lists)
         }
         #[cfg(feature = "live")]
         ["compare-framing", rest @ ..] => {

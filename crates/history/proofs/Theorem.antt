@@ -112,7 +112,7 @@ module _ (State : Type 0) (WellFormed : State → Type 0) (read : State → Cach
       let other = below28 (number (openingNumber o)) (omega arith) in
       ⊎-elim (λ e. other (sym e)) (refusals-not28 os) (List·Memᴰ·cases-cons m)
 
-  module _ (h : History) (run : Run State WellFormed read h) (few : offersIn (h .events) < counterMost) where
+  module _ (h : History) (run : Run State WellFormed read h) where
     abbrev start : Account
     start = begun (h .opening .limits)
 
@@ -174,12 +174,14 @@ module _ (State : Type 0) (WellFormed : State → Type 0) (read : State → Cach
           legal = rw reads (followed .0 .legal);
           total = rw reads (omega (arith, held .room, total-renumbered (λ _. 0) (end .cache .held)));
           fates = fates;
-          cached = ap (λ (c : Cache). c .cached) reads
-              ∙ omega (arith, balanced .cached, balanced .offers, told .offers);
-          dropped = ap (λ (c : Cache). c .dropped) reads
-              ∙ omega (arith, balanced .dropped, balanced .offers, told .offers, fates .counted, fates .units);
+          cached = λ few.
+              ap (λ (c : Cache). c .cached) reads
+              ∙ omega (arith, few, balanced .cached, balanced .offers, told .offers);
+          dropped = λ few.
+              ap (λ (c : Cache). c .dropped) reads
+              ∙ omega (arith, few, balanced .dropped, balanced .offers, told .offers, fates .counted, fates .units);
           yesBinds = yes-accepted;
         }
 
   pub every-run-accounted : EveryRunAccounted State WellFormed read
-  every-run-accounted h run few = accounted h run few
+  every-run-accounted h run = accounted h run

@@ -172,15 +172,15 @@ module _ (State : Type 0) (WellFormed : State → Type 0) (read : State → Cach
     pub total : byteTotal (read (run .last) .held) ≤ read (run .last) .limits .«max_total_bytes»
     -- each accepted body has exactly one fate
     pub fates : Fates (h .events) (run .answers) (accountOf h)
-    -- `pending_cached` counts the accepted bodies
-    pub cached : read (run .last) .cached ≡ length (accountOf h .accepted)
-    -- `pending_dropped` counts the drops: the place of each in the list is its own unit
-    pub dropped : read (run .last) .dropped ≡ length (accountOf h .drops)
+    -- with fewer than 2^64 - 1 offers, `pending_cached` counts the accepted bodies
+    pub cached : offersIn (h .events) < counterMost → read (run .last) .cached ≡ length (accountOf h .accepted)
+    -- and `pending_dropped` counts the drops: the place of each in the list is its own unit
+    pub dropped : offersIn (h .events) < counterMost → read (run .last) .dropped ≡ length (accountOf h .drops)
     -- where `would_accept` then says yes, an offer of any body of that id and length at that clock reading is accepted
     pub yesBinds : (i now : ℕ) (bytes : List ℕ) {s s′ : State} {r : Answer}
         → Promised (WouldAccept i (length bytes) now) (run .last) s (says true) → Promised (Offer i bytes now) s s′ r
         → r ≡ done
 
-  -- the theorem: every run with fewer than 2^64 - 1 offers is accounted for
+  -- the theorem: every run is accounted for
   abbrev pub EveryRunAccounted : Type 0
-  EveryRunAccounted = (h : History) (run : Run h) → offersIn (h .events) < counterMost → Accounted h run
+  EveryRunAccounted = (h : History) (run : Run h) → Accounted h run

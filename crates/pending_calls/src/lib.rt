@@ -1,9 +1,11 @@
 // The calls that change a pending flow cache in lent areas (pending_flows.rs).
 mod clearing;
+mod counters;
 mod removal;
 
 pub use clearing::ClearAnswer;
 pub use clearing::clear;
+pub use counters::raised;
 pub use removal::Removed;
 pub use removal::remove;
 pub use removal::stay_all;

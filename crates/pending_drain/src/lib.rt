@@ -3,5 +3,7 @@ mod draining;
 mod restoring;
 
 pub use draining::DrainAnswer;
+pub use draining::drain;
 pub use restoring::PutBackAnswer;
 pub use restoring::PutBackRefusal;
+pub use restoring::restore_replay_suffix;

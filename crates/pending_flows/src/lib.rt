@@ -16,5 +16,6 @@ pub use opening::open;
 pub use queries::AcceptAnswer;
 pub use queries::CacheFigures;
 pub use queries::FiguresAnswer;
+pub use queries::handed_count;
 pub use queries::take_figures;
 pub use queries::would_accept;

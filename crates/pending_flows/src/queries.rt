@@ -97,7 +97,7 @@ pub enum FiguresAnswer {
 }
 
 // How many handed-out bodies may still be put back.
-fn handed_count(words: &[u64], bytes: &[u8], limits: PendingFlowsConfig) -> u64
+pub fn handed_count(words: &[u64], bytes: &[u8], limits: PendingFlowsConfig) -> u64
     requires { ⌜ (wellFormed (now words) (length (now bytes)) ≡ true) × (limits ≡ limitsOf (now words)) ⌝ }
     ensures { λ r. ⌜ r ≡ countSum (tableOf (now (words .entry)) .handed) ⌝ }
 {

@@ -1,1 +1,4 @@
 pub mod Promises
+pub mod Plan
+pub mod Room
+pub mod Settle

@@ -1,5 +1,9 @@
 // Offering a body to a pending flow cache (pending_flows.rs).
 mod offering;
+mod plan;
+mod settling;
+mod storing;
 
 pub use offering::OfferAnswer;
 pub use offering::OfferRefusal;
+pub use offering::cache;

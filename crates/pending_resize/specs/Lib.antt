@@ -1,1 +1,5 @@
+pub mod Removing
+pub mod Cut
+pub mod Fit
+pub mod Shrink
 pub mod Promises

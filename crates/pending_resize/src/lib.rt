@@ -1,4 +1,9 @@
 // Resizing a pending flow cache (pending_flows.rs).
+mod cutting;
+mod fitting;
+mod removing;
 mod resizing;
+mod shrinking;
 
 pub use resizing::ResizeAnswer;
+pub use resizing::resize;

@@ -121,6 +121,7 @@ fn limits(records: u64, values: u64, payload: u64) -> Answer {
         Err(ConfigError::InvalidRecordsPerFlowset(_)) => NO_RECORDS,
         Err(ConfigError::InvalidDecodedFieldValueLimit(_)) => NO_VALUES,
         Err(ConfigError::InvalidDecodedFieldPayloadByteLimit(_)) => NO_PAYLOAD,
+        Err(other) => unreachable!("no limit of the output: {other:?}"),
     })
 }
 

@@ -1,0 +1,43 @@
+-- What is known of limits, figures and the records' place as they were read off well-formed words. Assumes nothing.
+use mathlib.Core.Path.{_≡_, sym, ap, subst, _∙_}
+use mathlib.Core.Bool.{true}
+use mathlib.Core.List.{List}
+use Prim.Native.Nat.{ℕ, _+_, _*_, _≤_}
+use native.Mathlib.Omega.{arith}
+use lib.ListN.{length}
+use Rattle.config.specs.declared.PendingFlowsConfig.{PendingFlowsConfig}
+use Rattle.config.specs.Limits.{recordWords, entryWords}
+use Rattle.table.specs.Layout.{limitsOf, entriesAt, recordsAt}
+use Rattle.table.specs.WellFormed.{wellFormed}
+use Rattle.table.proofs.Facts.{LegalWords, words-say}
+use Rattle.pending_flows.specs.declared.header.HeaderFigures.{HeaderFigures}
+use Rattle.pending_flows.specs.Header.{figuresAt}
+use Rattle.pending_calls.proofs.Removed.{few-templates, entries-below-records, records-within}
+
+-- the limits and figures that words hold, and where their records begin
+module _ (w : List ℕ) {l : PendingFlowsConfig} {f : HeaderFigures} {p : ℕ} (limits : l ≡ limitsOf w)
+    (figures : f ≡ figuresAt w) (from : p ≡ recordsAt l) where
+  pub as-read : (T : PendingFlowsConfig → HeaderFigures → ℕ → Type 0) →
+      T (limitsOf w) (figuresAt w) (recordsAt (limitsOf w)) → T l f p
+  as-read T t =
+      subst (λ (m : PendingFlowsConfig). T m f p) (sym limits)
+      (subst (λ (g : HeaderFigures). T (limitsOf w) g p) (sym figures)
+      (subst (T (limitsOf w) (figuresAt w)) (sym (from ∙ ap recordsAt limits)) t))
+
+  module _ (n : ℕ) (ok : wellFormed w n ≡ true) where
+    legal : LegalWords w n
+    legal = words-say w n ok
+
+    pub held-room : p + recordWords * f .templates ≤ length w
+    held-room =
+        as-read (λ l f p. p + recordWords * f .templates ≤ length w) (omega (arith, records-within w n legal))
+
+    pub rows-room : (entriesAt + entryWords * f .entries ≤ p) ×
+        (p + recordWords * (f .templates + f .chance) ≤ length w)
+    rows-room =
+        as-read
+        (λ l f p. (entriesAt + entryWords * f .entries ≤ p) × (p + recordWords * (f .templates + f .chance) ≤ length w))
+        (entries-below-records w n legal, records-within w n legal)
+
+    pub records-few : f .templates + f .chance ≤ 1024
+    records-few = as-read (λ l f p. f .templates + f .chance ≤ 1024) (few-templates w n legal)

@@ -1,0 +1,47 @@
+-- The record of what is handed out, and the arrays of a removal. Assumes nothing.
+use mathlib.Core.Path.{_≡_, refl, ap, subst, _∙_}
+use mathlib.Core.List.{List}
+use Prim.Native.Nat.{ℕ, _+_, _*_}
+use native.Mathlib.Omega.{arith}
+use lib.ListN.{length, set, length-replicate}
+use Rattle.config.specs.declared.Ttl.{Ttl}
+use Rattle.config.specs.Limits.{recordWords}
+use Rattle.table.specs.declared.TemplateRecord.{TemplateRecord}
+use Rattle.table.specs.Layout.{entriesAt}
+use Rattle.table.specs.Table.{entriesFrom, recordsFrom}
+use Rattle.table_entries.specs.Sweep.{swept}
+use Rattle.table_records.specs.Add.{Adds}
+use Rattle.table_records.specs.Choose.{skipping}
+use Rattle.table_records.proofs.Skips.{length-skipping}
+use Rattle.pending_flows.specs.declared.header.HeaderFigures.{HeaderFigures}
+use Rattle.pending_calls.specs.declared.removal.Removed.{Removed}
+use Rattle.pending_calls.specs.Removal.{counted, Removes}
+use Rattle.pending_drain.specs.Handing.{zeros, unexpired, TakesOut, HandsOut}
+
+pub length-zeros : length zeros ≡ 1024
+length-zeros = length-replicate {A = ℕ} 1024 0
+
+pub skip-long : (rs : List TemplateRecord) {skip : List ℕ} → skip ≡ skipping zeros rs → length skip ≡ 1024
+skip-long rs e = ap length e ∙ length-skipping zeros rs ∙ length-zeros
+
+module _ (p k : ℕ) (t : TemplateRecord) (w : List ℕ) where
+  pub nothing-handed : t .count ≡ 0 → HandsOut p k t w w 0
+  nothing-handed e = record { nothing = λ _. (refl, refl); some = λ h. absurd (omega arith) }
+
+  pub some-handed : {w′ : List ℕ} → (t .count ≡ 0 → ⊥) → Adds p k t w w′ → HandsOut p k t w w′ 1
+  some-handed n a = record { nothing = λ e. absurd (n e); some = λ _. (refl, a) }
+
+module _ (ttl : Ttl) (clock label p : ℕ) (f : HeaderFigures) (w w′ : List ℕ) (r : Removed) where
+  abbrev Removing : List ℕ → List ℕ → Type 0
+  Removing skip kept =
+      Removes (unexpired ttl clock label) p (f .templates + f .chance) (f .entries) label skip zeros w w′ kept r
+
+  abbrev countsLeft : List ℕ → List ℕ
+  countsLeft skip =
+      set (counted zeros (swept (unexpired ttl clock label) skip (entriesFrom w entriesAt (f .entries)))) label 0
+
+  pub taken-out : {skip kept : List ℕ} →
+      skip ≡ skipping zeros (recordsFrom w (p + recordWords * f .templates) (f .chance)) → Removing skip kept →
+      TakesOut ttl clock label p f w w′ r
+  taken-out {skip} e d =
+      subst (λ (s : List ℕ). Removing s (countsLeft s)) e (subst (Removing skip) (d .counts) d)

@@ -1,0 +1,16 @@
+pub mod HeldLabels
+pub mod Handing
+pub mod Staying
+pub mod DrainedRows
+pub mod Written
+pub mod LegalRows
+pub mod TakenOut
+pub mod HandedRows
+pub mod HeldTotals
+pub mod Drained
+pub mod AsRead
+pub mod Drains
+pub mod RestoredRows
+pub mod Restored
+pub mod Chances
+pub mod Restores

@@ -1,0 +1,128 @@
+use mathlib.Core.Path.{_∙_}
+use Rattle.pending_flows.proofs.Questions.{bodies-few}
+use Rattle.pending_calls.proofs.Performed.{header-within}
+use Rattle.pending_drain.proofs.AsRead.{held-room, rows-room, records-few}
+use Rattle.pending_drain.proofs.Drains.{hand-ready, Settling, settling}
+use Rattle.pending_drain.proofs.Drains.{drain-done}
+use borrow.Author.Needs.{needs}
+use Rattle.pending_drain.proofs.draining.drain_cache.Statement.{statement}
+use Rattle.pending_drain.proofs.draining.drain_cache.Tie as tie
+
+-- the places before the label is found
+abbrev placed : tie.After-held-label → tie.After-records-at
+placed h = h .before .before
+
+abbrev handed : tie.After-held-label → tie.After-handed-count
+handed h = placed h .before
+
+abbrev figured : tie.After-held-label → tie.After-figures-at
+figured h = handed h .before .before
+
+abbrev limited : tie.After-held-label → tie.After-limits-at
+limited h = figured h .before .before
+
+abbrev start : tie.After-held-label → tie.Start
+start h = limited h .before .before .before .before
+
+limits-at-requires : tie.Need-limits-at-requires
+limits-at-requires c κs = search (header-within, needs)
+
+figures-at-requires : tie.Need-figures-at-requires
+figures-at-requires c κs = search (header-within, needs)
+
+handed-count-requires : tie.Need-handed-count-requires
+handed-count-requires c κs = search needs
+
+records-at-requires : tie.Need-records-at-requires
+records-at-requires c κs = search (bodies-few, needs)
+
+held-label-requires : tie.Need-held-label-requires
+held-label-requires c κs = search (held-room, needs)
+
+take-out-requires : tie.Need-take-out-requires
+take-out-requires c κs =
+    let h : tie.After-held-label = c .before in (
+      rows-room _ (limited h .limits-at .ensures) (figured h .figures-at .ensures) (placed h .records-at .ensures) _
+          (start h .pre .0),
+      records-few _ (limited h .limits-at .ensures) (figured h .figures-at .ensures) (placed h .records-at .ensures) _
+          (start h .pre .0),
+    )
+
+cast-t27 : tie.Need-cast-t27
+cast-t27 c = search needs
+
+hand-out-requires : tie.Need-hand-out-requires
+hand-out-requires c κs =
+    let taken : tie.After-take-out = c .before .before .before .before in
+    let h : tie.After-held-label = taken .before .before in
+    hand-ready _ (start h .args .bytes .now) _ _ (start h .pre .0)
+    (limited h .limits-at .ensures) (figured h .figures-at .ensures) (placed h .records-at .ensures)
+    (h .held-label .ensures) (taken .take-out .ensures)
+
+-- what is known once the record of what is handed out stands
+abbrev taken : tie.After-hand-out → tie.After-take-out
+taken c = c .before .before .before .before .before
+
+abbrev labelled : tie.After-hand-out → tie.After-held-label
+labelled c = taken c .before .before
+
+settled : (c : tie.After-hand-out) →
+    Settling (figured (labelled c) .figures-at .result .entries) (handed (labelled c) .handed-count .result)
+    (taken c .take-out .result .entries) (c .hand-out .last .0)
+settled c =
+    let h : tie.After-held-label = labelled c in
+    settling _ (start h .args .bytes .now) _ _ (start h .pre .0) (limited h .limits-at .ensures)
+    (figured h .figures-at .ensures) (placed h .records-at .ensures) (h .held-label .ensures)
+    (taken c .take-out .ensures) (start h .pre .1) (c .hand-out .ensures)
+    (c .hand-out .kept .0 ∙ taken c .take-out .kept .0) (handed h .handed-count .ensures)
+
+dropped-after-requires : tie.Need-dropped-after-requires
+dropped-after-requires c κs =
+    let done = settled (c .before .before) in
+    (done .less-handed, done .less-left)
+
+held-bytes-requires : tie.Need-held-bytes-requires
+held-bytes-requires c κs =
+    let done = settled (c .before .before .before .before) in
+    (done .entries-fit, done .bytes-fit _)
+
+write-header-requires : tie.Need-write-header-requires
+write-header-requires c κs = settled (c .before .before .before .before .before .before) .header-fits
+
+cast-result : tie.Need-cast-result
+cast-result c = search needs
+
+same-length : tie.Need-same-length
+same-length c = search needs
+
+returns : tie.Need-returns
+returns c =
+    let written : tie.After-write-header = c .before .before .before in
+    let summed : tie.After-held-bytes = written .before .before in
+    let counted : tie.After-dropped-after = summed .before .before in
+    let added : tie.After-hand-out = counted .before .before .before in
+    let h : tie.After-held-label = labelled added in
+    drain-done _ _ _ _ (start h .pre .0) (limited h .limits-at .ensures) (figured h .figures-at .ensures)
+    (placed h .records-at .ensures) (h .held-label .ensures) (taken added .take-out .ensures) (start h .pre .1)
+    (added .hand-out .ensures) (added .hand-out .kept .0 ∙ taken added .take-out .kept .0)
+    (handed h .handed-count .ensures) (counted .dropped-after .ensures) (summed .held-bytes .ensures)
+    (written .write-header .ensures)
+
+pub drain-cache-spec : {M : Type 1} → statement M
+drain-cache-spec =
+    tie.close
+    (tie.spec
+    limits-at-requires
+    figures-at-requires
+    handed-count-requires
+    records-at-requires
+    held-label-requires
+    take-out-requires
+    cast-t27
+    hand-out-requires
+    dropped-after-requires
+    held-bytes-requires
+    write-header-requires
+    cast-result
+    same-length
+    returns)

@@ -1,0 +1,53 @@
+-- The steps of a drain on the table: the label of an id, what is taken out of the rows, and the record of what is
+-- handed out. They stand here because the contracts of the steps cite them.
+use mathlib.Core.Path.{_≡_}
+use mathlib.Core.Bool.{false}
+use mathlib.Core.List.{List}
+use Prim.Native.Nat.{ℕ, _+_, _*_, _<_}
+use lib.ListN.{set, replicate}
+use Rattle.config.specs.declared.Ttl.{Ttl}
+use Rattle.config.specs.Limits.{recordWords}
+use Rattle.table.specs.declared.TemplateRecord.{TemplateRecord}
+use Rattle.table.specs.declared.LabelFound.{LabelFound}
+use Rattle.table.specs.declared.LabelFound.the-variants as Label
+use Rattle.table.specs.Layout.{entriesAt}
+use Rattle.table.specs.Table.{entriesFrom, recordsFrom}
+use Rattle.table_entries.specs.declared.StayTest.{StayTest}
+use Rattle.table_entries.specs.Sweep.{swept}
+use Rattle.table_records.specs.Add.{Adds}
+use Rattle.table_records.specs.Choose.{skipping}
+use Rattle.pending_flows.specs.declared.header.HeaderFigures.{HeaderFigures}
+use Rattle.pending_calls.specs.declared.removal.Removed.{Removed}
+use Rattle.pending_calls.specs.Removal.{counted, Removes}
+
+-- the label that was found; else what is no label
+abbrev pub labelOrNone : LabelFound → ℕ
+labelOrNone (Label.At k) = k
+labelOrNone Label.Nothing = 1024
+
+abbrev pub zeros : List ℕ
+zeros = replicate 1024 0
+
+-- the expired bodies of a label go
+abbrev pub unexpired : Ttl → ℕ → ℕ → StayTest
+unexpired ttl clock label = record {
+  ttl = ttl;
+  clock = clock;
+  all = false;
+  label = label;
+  «max_size» = 18446744073709551615;
+}
+
+-- what is handed out already goes, the expired bodies of a label and the label's record; from word p on stand the
+-- records, the handed-out one behind the held ones
+abbrev pub TakesOut : Ttl → ℕ → ℕ → ℕ → HeaderFigures → List ℕ → List ℕ → Removed → Type 0
+TakesOut ttl clock label p f w w′ r =
+    let q = unexpired ttl clock label in
+    let skip = skipping zeros (recordsFrom w (p + recordWords * f .templates) (f .chance)) in
+    Removes q p (f .templates + f .chance) (f .entries) label skip zeros w w′
+    (set (counted zeros (swept q skip (entriesFrom w entriesAt (f .entries)))) label 0) r
+
+-- the record of what is handed out stands behind k held ones, where there is a body; chance: whether there is
+pub record HandsOut (p k : ℕ) (t : TemplateRecord) (w w′ : List ℕ) (chance : ℕ) : Type 0 where
+  pub nothing : t .count ≡ 0 → (chance ≡ 0) × (w′ ≡ w)
+  pub some : 0 < t .count → (chance ≡ 1) × Adds p k t w w′

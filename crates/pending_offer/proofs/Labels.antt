@@ -1,0 +1,262 @@
+-- The label under which an accepted body is stored: its own template's, or a free one. Assumes nothing.
+use mathlib.Core.Path.{_≡_, refl, sym, ap, _∙_, subst}
+use mathlib.Core.Logic.{_≢_}
+use mathlib.Core.Bool.{Bool, true, false, cond}
+use mathlib.Core.List.{List, [], _∷_, _++_}
+use Prim.Native.Nat.{ℕ, _+_, _≤_, _<_}
+use native.Mathlib.Omega.{arith}
+use lib.Dec.{eqb, ltb}
+use lib.ListN.{length, getD, replicate, length-append, length-replicate, List·getD-eq-default}
+use borrow.Author.Tests.{eqb-true, eq-eqb, ltb-true, ltb-false}
+use Rattle.table.specs.declared.Entry.{Entry}
+use Rattle.table.specs.declared.TemplateRecord.{TemplateRecord}
+use Rattle.table.specs.Layout.{limitsOf, heldCount, entryCount, chanceCount, entriesAt, recordsAt}
+use Rattle.table.specs.Table.{tableOf, entriesFrom, recordsFrom, indexFrom, hasLabel, tally}
+use Rattle.table.specs.WellFormed.{wellFormed}
+use Rattle.table.specs.Reads.{labelOf}
+use Rattle.table.proofs.Words.{length-records}
+use Rattle.table.proofs.Facts.{All, all-map, all-both, LegalRecord, LegalWords, words-say}
+use Rattle.table.proofs.Labels.{absent-says, label-says, absent-tally}
+use Rattle.table_entries.proofs.Swept.{all-swept}
+use Rattle.table_records.specs.Choose.{freeLabel}
+use Rattle.table_records.specs.Close.{closed}
+use Rattle.table_records.proofs.FreeLabels.{free-label}
+use Rattle.cache_model.specs.Bodies.{Body, size, bodiesOf}
+use Rattle.cache_model.specs.Offer.{settled}
+use Rattle.cache_model.proofs.Thinning.{thinned}
+use Rattle.pending_flows.specs.View.{cacheOf, bodiesAt, templatesAt}
+use Rattle.pending_flows.proofs.Templates.{length-templates}
+use Rattle.table_view.proofs.Tied.{Tied, none-above, words-tied, entries-small, no-label-tied, tied-apart}
+use Rattle.table_view.proofs.Removed.{everything, length-summed, labelCountsBut, labelCounts, none-set, closed-all}
+use Rattle.pending_calls.specs.declared.removal.Removed.{Removed}
+use Rattle.pending_calls.specs.Removal.{Removes}
+use Rattle.pending_calls.proofs.Removed.{zeros, TiedRowsApart}
+use Rattle.pending_offer.specs.declared.plan.OfferPlan.{OfferPlan}
+use Rattle.pending_offer.specs.Plan.{labelOr, planTest, Plans}
+use Rattle.pending_offer.specs.Room.{chosenLabel}
+use Rattle.pending_offer.proofs.PlanLabels.{differ-front, alike, label-alike}
+use Rattle.pending_offer.proofs.Settled.{outcome, settled-limited}
+use Rattle.pending_offer.proofs.Found.{no-bodies, found-has, found-bodies}
+use Rattle.pending_offer.proofs.Left.{staying, held-legal, bodies-left, kept-other, templates-left}
+use Rattle.pending_offer.proofs.Left.{left-rows, left-apart, left-entries, left-records}
+use Rattle.pending_offer.proofs.Outcomes.{leaves, others, leaves-nothing, accepted-held}
+
+-- A label a that no record has, under which the bodies bs are stored. A record for it can be added.
+pub record Chosen (p : ℕ) (left : Removed) (w b : List ℕ) (bs : List Body) (a : ℕ) : Type 0 where
+  pub below : a < 1024
+  pub tied : TiedRowsApart a p (left .records) (left .entries) w
+  pub bodies : bodiesAt b a (entriesFrom w entriesAt (left .entries)) ≡ bs
+  pub count : left .apart ≡ tally a (entriesFrom w entriesAt (left .entries))
+
+-- a label that entries have is a record's
+tallied-known : (k : ℕ) (rs : List TemplateRecord) (es : List Entry) → All (λ e. hasLabel (e .label) rs ≡ true) es →
+    0 < tally k es → hasLabel k rs ≡ true
+tallied-known k rs es known some = by-test (hasLabel k rs) refl
+  where
+    by-test : (t : Bool) → hasLabel k rs ≡ t → t ≡ true
+    by-test true e = refl
+    by-test false e = absurd (omega (arith, absent-tally k rs es (absent-says k rs e) known))
+
+-- and a label without entries is none's
+untallied-absent : (k : ℕ) {rs : List TemplateRecord} {es : List Entry} {is : List ℕ} → Tied rs es is →
+    tally k es ≡ 0 → hasLabel k rs ≡ false
+untallied-absent k {rs} {es} tied none = by-test (hasLabel k rs) refl
+  where
+    by-test : (t : Bool) → hasLabel k rs ≡ t → t ≡ false
+    by-test true e =
+        let some : 0 < tally k es =
+        label-says (λ j. 0 < tally j es) k rs
+        (all-both (λ r. r .count ≡ tally (r .label) es) (λ r. 0 < r .count) (λ r. 0 < tally (r .label) es)
+        (λ r c s. omega arith) rs (tied .counts-right) (tied .some-bodies)) e in
+        absurd (omega arith)
+    by-test false e = refl
+
+module _ (w b : List ℕ) (ok : wellFormed w (length b) ≡ true) (i : ℕ) (x : Body)
+    (small : size x ≤ limitsOf w .«max_entry_size_bytes») {skip : List ℕ} {plan : OfferPlan}
+    (plans : Plans w b i (size x) (x .clock) skip plan) where
+  legal : LegalWords w (length b)
+  legal = words-say w (length b) ok
+
+  abbrev entries : List Entry
+  entries = tableOf w .entries
+
+  abbrev held : List TemplateRecord
+  held = tableOf w .held
+
+  abbrev stay : List Entry
+  stay = staying w (x .clock) skip plan
+
+  abbrev Legal : TemplateRecord → Type 0
+  Legal = LegalRecord (limitsOf w) entries
+
+  -- a held record has the id exactly where it has the plan's label
+  agrees : All (λ u. eqb (plan .label) (u .label) ≡ eqb i (u .key)) held
+  agrees =
+      let keys = differ-front (λ u. u .key) held (tableOf w .handed) (legal .table-legal .keys-differ) in
+      let labels = differ-front (λ u. u .label) held (tableOf w .handed) (legal .table-legal .labels-differ) in
+      rw (plans .label)
+      (label-alike i held (alike held keys labels)
+      (all-map Legal (λ u. u .label < 1024) (λ u h. h .label-small) held (held-legal w b ok (x .clock) skip plan)))
+
+  all-labels : All (λ e. e .label < 1024) entries
+  all-labels =
+      let tied = words-tied w (length b) legal in
+      entries-small (held ++ tableOf w .handed) entries (tied .labels-small) (tied .labels-known)
+
+  none-before : tally 1024 entries ≡ 0
+  none-before = none-above entries all-labels
+
+  none-stay : tally 1024 stay ≡ 0
+  none-stay =
+      none-above stay
+      (all-swept (λ e. e .label < 1024) (planTest (limitsOf w) (x .clock) plan) skip entries all-labels)
+
+  -- the other ids' templates
+  others-stay : templatesAt b stay (closed (labelCountsBut (plan .label) stay) held)
+      ≡ thinned (others w b ok i x small) (cacheOf (tableOf w) b .held)
+  others-stay =
+      templates-left w b ok (x .clock) skip plan i (size x) plans (plan .label) (others w b ok i x small)
+      (all-both (λ u. eqb (plan .label) (u .label) ≡ eqb i (u .key)) _ _ (λ u e g. rw (e, g)) held agrees
+      (bodies-left w b ok (x .clock) skip plan i (size x) plans x refl))
+
+  -- the id's own bodies
+  own-stay : bodiesAt b (plan .label) stay ≡ leaves w b ok i x small i (bodiesOf i (cacheOf (tableOf w) b .held))
+  own-stay =
+      let f = leaves w b ok i x small in
+      let own : bodiesAt b (labelOr (labelOf i held)) stay ≡ f i (bodiesAt b (labelOr (labelOf i held)) entries) =
+      found-has i (λ j k. bodiesAt b k stay ≡ f j (bodiesAt b k entries)) held
+      (bodies-left w b ok (x .clock) skip plan i (size x) plans x refl)
+      (rw (no-bodies b 1024 stay none-stay, no-bodies b 1024 entries none-before)
+      (sym (leaves-nothing w b ok i x small))) in
+      ap (λ (k : ℕ). bodiesAt b k stay) (plans .label) ∙ own
+      ∙ ap (f i) (sym (found-bodies i b entries held none-before))
+
+  -- no record that remains has the id
+  keys-fresh : All (λ u. u .key ≢ i) (closed (labelCountsBut (plan .label) stay) held)
+  keys-fresh =
+      closed-all kept (λ u. eqb (plan .label) (u .label) ≡ eqb i (u .key)) (λ u. u .key ≢ i)
+      (λ u e some same. omega (
+        arith,
+        none-set (labelCounts stay) (plan .label),
+        ap (λ (k : ℕ). getD kept k 0) (eqb-true (plan .label) (u .label) (e ∙ eq-eqb i (u .key) (sym same))),
+      )) held agrees
+    where
+      kept : List ℕ
+      kept = labelCountsBut (plan .label) stay
+
+  module _ (room : plan .full ≡ false) {w₁ kept₁ : List ℕ} {left : Removed}
+      (done : Removes (planTest (limitsOf w) (x .clock) plan) (recordsAt (limitsOf w)) (heldCount w + chanceCount w)
+      (entryCount w) (plan .label) skip zeros w w₁ kept₁ left) where
+    abbrev from : ℕ
+    from = recordsAt (limitsOf w)
+
+    abbrev entries₁ : List Entry
+    entries₁ = entriesFrom w₁ entriesAt (left .entries)
+
+    abbrev records₁ : List TemplateRecord
+    records₁ = recordsFrom w₁ from (left .records)
+
+    entries-are : entries₁ ≡ stay
+    entries-are = left-entries w b ok i (x .clock) (size x) (plan .label) plans done
+
+    records-are : records₁ ≡ closed (labelCountsBut (plan .label) stay) held
+    records-are = left-records w b ok i (x .clock) (size x) (plan .label) plans done
+
+    pub others-left : templatesAt b entries₁ records₁ ≡ thinned (others w b ok i x small) (cacheOf (tableOf w) b .held)
+    others-left = rw (entries-are, records-are) others-stay
+
+    pub fresh-left : All (λ u. u .key ≢ i) records₁
+    fresh-left = rw records-are keys-fresh
+
+    -- there is room for one record more
+    pub few-left : left .records < limitsOf w .«max_pending_flows»
+    unfolding settled
+    few-left =
+        let ts = cacheOf (tableOf w) b .held in
+        let own = leaves w b ok i x small i (bodiesOf i ts) ++ (x ∷ []) in
+        omega (
+          arith,
+          settled-limited w b ok i x small .within .few,
+          length-append (outcome w b ok i x small .left .held) [],
+          length-append (thinned (others w b ok i x small) ts) (record { id = i; bodies = own } ∷ []),
+          length-templates b entries₁ records₁,
+          length-records w₁ from (left .records),
+          ap length others-left,
+          ap length (accepted-held w b ok i x small plans room),
+        )
+
+    abbrev own : List Body
+    own = leaves w b ok i x small i (bodiesOf i (cacheOf (tableOf w) b .held))
+
+    own-left : bodiesAt b (plan .label) entries₁ ≡ own
+    own-left = rw entries-are own-stay
+
+    -- the id is held: its label
+    held-chosen : plan .label < 1024 → Chosen from left w₁ b own (plan .label)
+    held-chosen h = record {
+      below = h;
+      tied = left-rows w b ok i (x .clock) (size x) (plan .label) plans done;
+      bodies = own-left;
+      count = left-apart w b ok i (x .clock) (size x) (plan .label) plans done h;
+    }
+
+    -- it is not: a free label
+    module _ (none : plan .label ≡ 1024) where
+      free : ℕ
+      free = freeLabel kept₁ 0 1024
+
+      tied₁ : Tied records₁ entries₁ (indexFrom w₁ from (left .records))
+      tied₁ =
+          no-label-tied
+          (subst (λ (a : ℕ). TiedRowsApart a from (left .records) (left .entries) w₁) none
+          (left-rows w b ok i (x .clock) (size x) (plan .label) plans done))
+
+      kept-is : (k : ℕ) → k < 1024 → getD kept₁ k 0 ≡ tally k entries₁
+      kept-is k h =
+          ap (λ (l : List ℕ). getD l k 0) (done .counts)
+          ∙ kept-other w b ok (x .clock) skip plan i (size x) plans (plan .label) k h (λ e. omega arith)
+          ∙ ap (tally k) (sym entries-are)
+
+      free-is : (free < 1024) × (getD kept₁ free 0 ≡ 0)
+      unfolding free
+      free-is =
+          free-label kept₁ records₁
+          (omega (arith, few-left, legal .limits-legal .templates-few, length-records w₁ from (left .records)))
+          (λ k h some. tallied-known k records₁ entries₁ (tied₁ .labels-known) (omega (arith, kept-is k h)))
+
+      untallied : tally free entries₁ ≡ 0
+      untallied = sym (kept-is free (free-is .0)) ∙ free-is .1
+
+      none-apart : getD (labelCounts stay) (plan .label) 0 ≡ 0
+      none-apart =
+          let long : length (replicate {A = ℕ} 1024 0) ≡ 1024 = length-replicate {A = ℕ} 1024 0 in
+          List·getD-eq-default (labelCounts stay) 0 {n = plan .label}
+          (omega (arith, length-summed everything false (replicate 1024 0) stay))
+
+      free-chosen : Chosen from left w₁ b own free
+      free-chosen = record {
+        below = free-is .0;
+        tied = tied-apart (untallied-absent free tied₁ untallied) tied₁;
+        bodies = no-bodies b free entries₁ untallied
+            ∙ sym (no-bodies b (plan .label) entries₁ (rw (none, entries-are) none-stay)) ∙ own-left;
+        count = done .bodies-apart ∙ none-apart ∙ sym untallied;
+      }
+
+    pub label-chosen : {a : ℕ} → a ≡ chosenLabel (plan .label) kept₁ → Chosen from left w₁ b own a
+    unfolding free
+    label-chosen {a} is = subst (Chosen from left w₁ b own) (sym is) (by-test (ltb (plan .label) 1024) refl)
+      where
+        by-test : (t : Bool) → ltb (plan .label) 1024 ≡ t →
+            Chosen from left w₁ b own (cond t (plan .label) (freeLabel kept₁ 0 1024))
+        by-test true e = held-chosen (ltb-true (plan .label) 1024 e)
+        by-test false e =
+            free-chosen
+            (omega (
+              arith,
+              ltb-false (plan .label) 1024 e,
+              plans .label,
+              found-has i (λ j k. k ≤ 1024) held
+                  (all-map Legal (λ u. u .label ≤ 1024) (λ u h. omega (arith, h .label-small)) held
+                  (held-legal w b ok (x .clock) skip plan))
+                  (omega arith),
+            ))

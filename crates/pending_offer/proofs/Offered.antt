@@ -1,0 +1,80 @@
+-- The offer behind the tests of 6 and of 28. Assumes nothing.
+use mathlib.Core.Path.{_≡_, ap}
+use mathlib.Core.Bool.{Bool, true, false}
+use mathlib.Core.List.{List}
+use Prim.Native.Nat.{ℕ, _≤_, _<_}
+use native.Mathlib.Omega.{arith}
+use lib.ListN.{length, set}
+use Rattle.config.specs.declared.PendingFlowsConfig.{PendingFlowsConfig}
+use Rattle.table.specs.Layout.{limitsOf, droppedWord}
+use Rattle.table.specs.Table.{tableOf}
+use Rattle.table.specs.WellFormed.{wellFormed}
+use Rattle.table.proofs.Facts.{words-say}
+use Rattle.cache_model.specs.Cache.{Cache, done, number, raised}
+use Rattle.cache_model.specs.Offer.{offered}
+use Rattle.pending_flows.specs.View.{Areas, areasOf, cacheOf}
+use Rattle.pending_calls.specs.Promises.{Does}
+use Rattle.pending_calls.proofs.Performed.{damaged-performs, performed, untouched-all}
+use Rattle.pending_offer.specs.declared.offering.OfferRefusal.the-variants as Refusal
+use Rattle.pending_offer.specs.declared.offering.OfferAnswer.{OfferAnswer}
+use Rattle.pending_offer.specs.declared.offering.OfferAnswer.the-variants as Offer
+use Rattle.pending_offer.specs.Promises.{bodyOf, Offers}
+use Rattle.pending_offer.specs.Settle.{DoesOffer}
+use Rattle.pending_offer.proofs.TooLong.{too-long-does}
+
+-- a body that is not too long fits in an empty cache
+pub size-within : (w : List ℕ) (n len : ℕ) (l : PendingFlowsConfig) → wellFormed w n ≡ true → l ≡ limitsOf w →
+    len ≤ limitsOf w .«max_entry_size_bytes» → len ≤ l .«max_total_bytes»
+size-within w n len l ok is small =
+    omega (
+      arith,
+      words-say w n ok .limits-legal .size-within,
+      ap (λ (k : PendingFlowsConfig). k .«max_total_bytes») is,
+    )
+
+module _ (i : ℕ) (body : List ℕ) (clock : ℕ) (c : Cache) (a a′ : Areas) where
+  pub cached-offer : Does (offered i (bodyOf body clock)) c a done a′ → DoesOffer i body clock c a Offer.Cached a′
+  cached-offer d = record {
+    does = d;
+    tooLong = λ e. let no : _≡_ {A = ℕ} 0 1 = cc in absurd (omega arith);
+  }
+
+  pub full-offer : Does (offered i (bodyOf body clock)) c a (number 20) a′ →
+      DoesOffer i body clock c a (Offer.Refused Refusal.TemplateFull) a′
+  full-offer d = record {
+    does = d;
+    tooLong = λ e. let no : _≡_ {A = ℕ} 20 6 = cc in absurd (omega arith);
+  }
+
+pub too-long-offer : (w b : List ℕ) (i : ℕ) (body : List ℕ) (clock : ℕ) (l : PendingFlowsConfig) {w′ : List ℕ} →
+    wellFormed w (length b) ≡ true → l ≡ limitsOf w → l .«max_entry_size_bytes» < length body →
+    w′ ≡ set w 7 (raised (droppedWord w) 1) →
+    DoesOffer i body clock (cacheOf (tableOf w) b) (areasOf w b) (Offer.Refused Refusal.TooLong) (areasOf w′ b)
+too-long-offer w b i body clock l ok is long counted = record {
+  does = too-long-does w b ok i (bodyOf body clock)
+      (omega (arith, ap (λ (k : PendingFlowsConfig). k .«max_entry_size_bytes») is)) counted;
+  tooLong = λ _. ap (λ (u : List ℕ). areasOf u b) counted;
+}
+
+-- a body that is no longer than the limit that was read
+pub not-too-long : (w : List ℕ) (l : PendingFlowsConfig) (len : ℕ) → l ≡ limitsOf w → len ≤ l .«max_entry_size_bytes» →
+    len ≤ limitsOf w .«max_entry_size_bytes»
+not-too-long w l len is h = omega (arith, ap (λ (k : PendingFlowsConfig). k .«max_entry_size_bytes») is)
+
+-- the call, behind the test of 28
+module _ (w b : List ℕ) (i : ℕ) (body : List ℕ) (clock : ℕ) {v : Bool} (tested : v ≡ wellFormed w (length b)) where
+  pub offer-damaged : v ≡ false → Offers i body clock (areasOf w b) (Offer.Refused Refusal.Damaged) (areasOf w b)
+  offer-damaged h = record {
+    performs = damaged-performs w b tested (offered i (bodyOf body clock)) h;
+    tooLong = λ e. let no : _≡_ {A = ℕ} 28 6 = cc in absurd (omega arith);
+    frame = untouched-all _ _ _;
+  }
+
+  pub offer-done : {w′ b′ : List ℕ} {r : OfferAnswer} → v ≡ true →
+      DoesOffer i body clock (cacheOf (tableOf w) b) (areasOf w b) r (areasOf w′ b′) →
+      Offers i body clock (areasOf w b) r (areasOf w′ b′)
+  offer-done h d = record {
+    performs = performed w b tested (offered i (bodyOf body clock)) h (d .does);
+    tooLong = d .tooLong;
+    frame = d .does .frame;
+  }

@@ -1,0 +1,104 @@
+-- The plan of an offer from its steps, with the limits l and the figures f that were read, the records from word p on,
+-- and n templates that go for their bytes. Assumes nothing.
+use mathlib.Core.Path.{_≡_, ap, _∙_}
+use mathlib.Core.Bool.{true}
+use mathlib.Core.List.{List}
+use Prim.Native.Nat.{ℕ, _+_, _*_, _-_, _≤_, _<_}
+use native.Mathlib.Omega.{arith}
+use lib.ListN.{length, take, drop}
+use Rattle.config.specs.declared.PendingFlowsConfig.{PendingFlowsConfig}
+use Rattle.config.specs.Limits.{recordWords}
+use Rattle.table.specs.Layout.{limitsOf, heldCount, entryCount, chanceCount, entriesAt, recordsAt}
+use Rattle.table.specs.Table.{tableOf, entriesFrom, recordsFrom}
+use Rattle.table.specs.WellFormed.{wellFormed}
+use Rattle.table.specs.Reads.{labelOf}
+use Rattle.table.proofs.Facts.{LegalWords, words-say}
+use Rattle.table_records.specs.Choose.{skipping}
+use Rattle.cache_model.specs.Removal.{evictions}
+use Rattle.pending_flows.specs.declared.header.HeaderFigures.{HeaderFigures}
+use Rattle.pending_flows.specs.Header.{figuresAt}
+use Rattle.pending_flows.specs.View.{cacheOf}
+use Rattle.table_view.proofs.Summed.{zeros}
+use Rattle.pending_offer.specs.declared.plan.Decision.{Decision}
+use Rattle.pending_offer.specs.Plan.{liveSums, labelOr, Decides, Plans}
+use Rattle.pending_offer.proofs.PlanTables.{evicted-few, held-are, handed-are, gone-are, stay-are}
+use Rattle.pending_offer.proofs.Planned.{plan-made}
+
+module _ (w b : List ℕ) (ok : wellFormed w (length b) ≡ true) (l : PendingFlowsConfig) (limits : l ≡ limitsOf w)
+    (f : HeaderFigures) (figures : f ≡ figuresAt w) (p : ℕ) (from : p ≡ recordsAt l) where
+  legal : LegalWords w (length b)
+  legal = words-say w (length b) ok
+
+  start : p ≡ recordsAt (limitsOf w)
+  start = from ∙ ap recordsAt limits
+
+  held-many : f .templates ≡ heldCount w
+  held-many = ap (λ (g : HeaderFigures). g .templates) figures
+
+  entries-many : f .entries ≡ entryCount w
+  entries-many = ap (λ (g : HeaderFigures). g .entries) figures
+
+  handed-many : f .chance ≡ chanceCount w
+  handed-many = ap (λ (g : HeaderFigures). g .chance) figures
+
+  pub handed-within : p + recordWords * f .templates + recordWords * f .chance ≤ length w
+  handed-within =
+      omega (arith, start, held-many, handed-many, legal .templates-fit, legal .limits-legal .words-enough)
+
+  -- places of records, as 64-bit numbers
+  pub held-scaled : recordWords * f .templates < 18446744073709551616
+  held-scaled = omega (arith, held-many, legal .templates-fit, legal .limits-legal .templates-few)
+
+  pub handed-start : p + recordWords * f .templates < 18446744073709551616
+  handed-start =
+      omega (
+        arith,
+        start,
+        held-many,
+        legal .templates-fit,
+        legal .limits-legal .templates-few,
+        legal .limits-legal .bodies-few,
+      )
+
+  module _ (n len : ℕ) (evicted : n ≡ evictions (l .«max_total_bytes») len (cacheOf (tableOf w) b .held)) where
+    pub gone-few : n ≤ f .templates
+    gone-few = omega (arith, evicted-few w b ok (l .«max_total_bytes») len, held-many)
+
+    pub gone-scaled : recordWords * n < 18446744073709551616
+    gone-scaled = omega (arith, gone-few, held-scaled)
+
+    pub stay-start : p + recordWords * n < 18446744073709551616
+    stay-start = omega (arith, gone-few, handed-start)
+
+    pub gone-within : p + recordWords * n ≤ length w
+    gone-within = omega (arith, gone-few, handed-within)
+
+    pub stay-within : p + recordWords * n + recordWords * (f .templates - n) ≤ length w
+    stay-within = omega (arith, gone-few, handed-within)
+
+    few : n ≤ heldCount w
+    few = omega (arith, gone-few, held-many)
+
+    goes : n ≡ evictions (limitsOf w .«max_total_bytes») len (cacheOf (tableOf w) b .held)
+    goes =
+        evicted
+        ∙ ap (λ (k : PendingFlowsConfig). evictions (k .«max_total_bytes») len (cacheOf (tableOf w) b .held)) limits
+
+    pub plan-done : (id clock label : ℕ) (skip₀ skip₁ skip₂ skip′ : List ℕ) (d : Decision) → skip₀ ≡ zeros →
+        skip₁ ≡ skipping skip₀ (recordsFrom w p n) →
+        skip₂ ≡ skipping skip₁ (recordsFrom w (p + recordWords * f .templates) (f .chance)) →
+        Decides l id (liveSums (l .ttl) clock (entriesFrom w entriesAt (f .entries)))
+        (recordsFrom w (p + recordWords * n) (f .templates - n)) skip₂ skip′ d →
+        label ≡ labelOr (labelOf id (recordsFrom w p (f .templates))) →
+        Plans w b id len clock skip′ (record { full = d .full; label = label; all = d .all })
+    plan-done id clock label skip₀ skip₁ skip₂ skip′ d none gone handed decided labelled =
+        let gone-read : recordsFrom w p n ≡ take n (tableOf w .held) = rw start (gone-are w b ok n few) in
+        let stay-read : recordsFrom w (p + recordWords * n) (f .templates - n) ≡ drop n (tableOf w .held) =
+        rw (start, held-many) (stay-are w b ok n few) in
+        let handed-read : recordsFrom w (p + recordWords * f .templates) (f .chance) ≡ tableOf w .handed =
+        rw (start, held-many, handed-many) (handed-are w b ok) in
+        let held-read : recordsFrom w p (f .templates) ≡ tableOf w .held = rw (start, held-many) (held-are w b ok) in
+        let skips : skip₂ ≡ skipping (skipping zeros (take n (tableOf w .held))) (tableOf w .handed) =
+        handed ∙ rw (handed-read, gone, gone-read, none) in
+        plan-made w b id len clock ok n goes d skip′ (rw (limits, entries-many, stay-read, skips) at decided) label
+        (labelled ∙ rw held-read)

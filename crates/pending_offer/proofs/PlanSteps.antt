@@ -1,0 +1,134 @@
+-- The steps by which a plan is made, from what their callees ensure. Assumes nothing.
+use mathlib.Core.Path.{_≡_, refl, sym, ap, _∙_}
+use mathlib.Core.Bool.{Bool, true, false, cond}
+use mathlib.Core.List.{List}
+use Prim.Native.Nat.{ℕ, _+_, _*_, _-_, _≤_, _<_}
+use native.Mathlib.Omega.{arith}
+use lib.Dec.{leb, ltb}
+use lib.ListN.{length, getD, set}
+use borrow.Author.Tests.{lt-ltb, le-ltb, lt-leb, le-leb}
+use Rattle.config.specs.declared.Ttl.the-variants.{None}
+use Rattle.config.specs.declared.PendingFlowsConfig.{PendingFlowsConfig}
+use Rattle.config.specs.Limits.{recordWords, entryWords, maxBodies}
+use Rattle.table.specs.declared.Entry.{Entry}
+use Rattle.table.specs.declared.TemplateRecord.{TemplateRecord}
+use Rattle.table.specs.declared.LabelFound.{LabelFound}
+use Rattle.table.specs.declared.LabelFound.the-variants as Label
+use Rattle.table.specs.Layout.{limitsOf, entriesAt, recordsAt}
+use Rattle.table.specs.Table.{tableOf, entriesFrom, recordsFrom}
+use Rattle.table.specs.WellFormed.{wellFormed}
+use Rattle.table.specs.Reads.{labelOf}
+use Rattle.table.proofs.Words.{length-records}
+use Rattle.table_entries.specs.declared.StayTest.{StayTest}
+use Rattle.table_entries.specs.Sums.{summed}
+use Rattle.table_records.specs.Choose.{skipAll, evictionsOf, liveRecords, firstLive}
+use Rattle.cache_model.specs.Removal.{evictions}
+use Rattle.pending_flows.specs.declared.header.HeaderFigures.{HeaderFigures}
+use Rattle.pending_flows.specs.Header.{figuresAt}
+use Rattle.pending_flows.specs.View.{cacheOf}
+use Rattle.pending_flows.proofs.Questions as Questions
+use Rattle.table_view.proofs.Summed.{zeros}
+use Rattle.pending_offer.specs.declared.plan.Decision.{Decision}
+use Rattle.pending_offer.specs.Plan.{liveTest, liveSums, labelOr, liveAt, othersFill, Decides}
+use Rattle.pending_offer.proofs.PlanReads.{evictions-read, none-evicted}
+use Rattle.pending_offer.proofs.PlanTables.{held-sized, total-held, held-are}
+
+-- ---- by what was found
+
+module _ (x : LabelFound) where
+  pub found-live : (live : List ℕ) (k n : ℕ) → n ≡ getD live k 0 → x ≡ Label.At k → n ≡ liveAt live x
+  found-live live k n e f = rw f e
+
+  pub found-fills : (k n most : ℕ) → x ≡ Label.At k → ltb most n ≡ othersFill x n most
+  found-fills k n most f = rw f
+
+  pub none-fills : (n most : ℕ) → x ≡ Label.Nothing → leb most n ≡ othersFill x n most
+  none-fills n most f = rw f
+
+pub label-read : (id label : ℕ) (rs : List TemplateRecord) (x : LabelFound) → x ≡ labelOf id rs → label ≡ labelOr x →
+    label ≡ labelOr (labelOf id rs)
+label-read id label rs x found read = read ∙ ap labelOr found
+
+-- ---- the least recent live template
+
+module _ (live skip : List ℕ) (rs : List TemplateRecord) (most n : ℕ) (counted : n ≡ liveRecords live rs) where
+  pub first-stays : n < most →
+      skip ≡ cond (leb most (liveRecords live rs)) (set skip (firstLive live rs) skipAll) skip
+  first-stays h = rw (lt-leb most (liveRecords live rs) (omega arith))
+
+  pub first-goes : (k : ℕ) (skip′ : List ℕ) → most ≤ n → k ≡ firstLive live rs → skip′ ≡ set skip k skipAll →
+      skip′ ≡ cond (leb most (liveRecords live rs)) (set skip (firstLive live rs) skipAll) skip
+  first-goes k skip′ h first stored = rw (le-leb most (liveRecords live rs) (omega arith), stored, first)
+
+-- ---- the decision
+
+module _ (l : PendingFlowsConfig) (id : ℕ) (w live skip : List ℕ) (p n : ℕ) (x : LabelFound) (h : ℕ)
+    (found : x ≡ labelOf id (recordsFrom w p n)) (counted : h ≡ liveAt live x) where
+  abbrev rs : List TemplateRecord
+  rs = recordsFrom w p n
+
+  here : liveAt live (labelOf id rs) ≡ h
+  here = ap (liveAt live) (sym found) ∙ sym counted
+
+  pub held-decided : 0 < h →
+      Decides l id live rs skip skip (record { full = leb (l .«max_entries_per_template») h; all = false })
+  held-decided some =
+      let tested : ltb 0 h ≡ true = lt-ltb 0 h some in
+      record { full = rw (here, tested); all = rw (here, tested); skips = refl }
+
+  module _ (none : h ≤ 0) (t : Bool) (tested : t ≡ othersFill x n (l .«max_pending_flows»)) where
+    no-bodies : ltb 0 h ≡ false
+    no-bodies = le-ltb 0 h none
+
+    filled : othersFill (labelOf id rs) (length rs) (l .«max_pending_flows») ≡ t
+    filled = rw (length-records w p n, ← found) (sym tested)
+
+    pub new-decided : t ≡ false → Decides l id live rs skip skip (record { full = false; all = false })
+    new-decided e = record { full = rw (here, no-bodies); all = rw (here, no-bodies, filled, e); skips = refl }
+
+    pub new-full-decided : (skip′ : List ℕ) → t ≡ true →
+        skip′ ≡ cond (leb (l .«max_pending_flows») (liveRecords live rs)) (set skip (firstLive live rs) skipAll) skip →
+        Decides l id live rs skip skip′ (record { full = false; all = true })
+    new-full-decided skip′ e stored =
+        record { full = rw (here, no-bodies); all = rw (here, no-bodies, filled, e); skips = stored }
+
+-- with the live bodies of each label summed
+pub sums-decided : (l : PendingFlowsConfig) (id clock : ℕ) (es : List Entry) (rs : List TemplateRecord)
+    (sums skip skip′ : List ℕ) (q : StayTest) (d : Decision) → q ≡ liveTest (l .ttl) clock →
+    sums ≡ summed q false zeros es → Decides l id sums rs skip skip′ d →
+    Decides l id (liveSums (l .ttl) clock es) rs skip skip′ d
+sums-decided l id clock es rs sums skip skip′ q d tests counted decided =
+    let is : sums ≡ liveSums (l .ttl) clock es = counted ∙ rw tests in
+    rw is at decided
+
+-- ---- the evictions, with the limits l and the figures f that were read
+
+module _ (w b : List ℕ) (ok : wellFormed w (length b) ≡ true) (l : PendingFlowsConfig) (limits : l ≡ limitsOf w)
+    (f : HeaderFigures) (figures : f ≡ figuresAt w) where
+  pub entries-within : entriesAt + entryWords * f .entries ≤ length w
+  entries-within = rw figures (Questions.entries-within w (length b) ok)
+
+  pub bodies-few : maxBodies l ≤ 262144
+  bodies-few = Questions.bodies-few w (length b) ok l limits
+
+  pub records-within : (p : ℕ) → p ≡ recordsAt l → p + recordWords * f .templates ≤ length w
+  records-within p e = rw figures (Questions.records-within w (length b) ok l p limits e)
+
+  module _ (len : ℕ) (fits : len ≤ l .«max_total_bytes») where
+    pub room-already : f .total ≤ l .«max_total_bytes» - len →
+        0 ≡ evictions (l .«max_total_bytes») len (cacheOf (tableOf w) b .held)
+    room-already room =
+        none-evicted b (tableOf w .entries) (l .«max_total_bytes») len (tableOf w .held) fits
+        (omega (arith, total-held w b ok, ap (λ (g : HeaderFigures). g .total) figures))
+
+    pub room-made : (p n : ℕ) (q : StayTest) (sizes : List ℕ) → q ≡ liveTest None 0 →
+        sizes ≡ summed q true zeros (entriesFrom w entriesAt (f .entries)) → p ≡ recordsAt l →
+        n ≡ evictionsOf (l .«max_total_bytes» - len) sizes (f .total) (recordsFrom w p (f .templates)) →
+        n ≡ evictions (l .«max_total_bytes») len (cacheOf (tableOf w) b .held)
+    room-made p n q sizes tests counted from evicted =
+        let sized : sizes ≡ summed (liveTest None 0) true zeros (tableOf w .entries) =
+        counted ∙ rw (tests, figures) in
+        let start : p ≡ recordsAt (limitsOf w) = from ∙ ap recordsAt limits in
+        evicted ∙ rw (figures, start, held-are w b ok, sized)
+        (evictions-read b (tableOf w .entries) (l .«max_total_bytes») len _ _ (tableOf w .held) fits
+        (held-sized w b ok 0) (total-held w b ok))

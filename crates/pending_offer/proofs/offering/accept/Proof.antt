@@ -1,0 +1,109 @@
+use mathlib.Core.Path.{refl, _∙_}
+use borrow.Author.Needs.{needs}
+use Rattle.pending_offer.proofs.Accepted.{Accepting}
+use Rattle.pending_offer.proofs.Accepts.{accepted-room, accepted-fewer, records-fit, entries-fit}
+use Rattle.pending_offer.proofs.Accepts.{accepted-settles, accepted-does}
+use Rattle.pending_offer.proofs.offering.accept.Statement.{statement}
+use Rattle.pending_offer.proofs.offering.accept.Tie as tie
+
+-- where the function begins, and where the removal is done
+abbrev begins : tie.After-held-bodies → tie.Start
+begins c = c .before .before .before .before .before .before
+
+abbrev removed : tie.After-choose-label → tie.After-remove-planned
+removed c = c .before .before .before .before
+
+abbrev start : tie.After-choose-label → tie.Start
+start c = begins (removed c .before .before .before .before .before)
+
+abbrev chosen : tie.After-add-body → tie.After-choose-label
+chosen c = c .before .before .before
+
+abbrev held : tie.After-choose-label → tie.After-held-bodies
+held c = removed c .before .before .before .before .before
+
+-- what is known once the label is chosen
+known : (c : tie.After-choose-label) →
+    Accepting (start c .args .words .now) (start c .args .bytes .now) (start c .args .limits) (start c .args .id)
+    (start c .args .body .now) (start c .args .clock) (start c .args .plan)
+    (removed c .remove-planned .last .0) (removed c .remove-planned .result) (c .choose-label .result)
+known c =
+    let pre = start c .pre in
+    record {
+      skip = _;
+      kept = _;
+      ok = pre .0 .0;
+      limits = pre .0 .1;
+      id = pre .1 .1 .1 .1;
+      small = pre .1 .0 .1;
+      plans = pre .1 .1 .0;
+      room = pre .1 .1 .1 .0;
+      removed = removed c .remove-planned .ensures;
+      long = removed c .remove-planned .kept .0;
+      label = c .choose-label .ensures;
+    }
+
+held-bodies-requires : tie.Need-held-bodies-requires
+held-bodies-requires c κs = search needs
+
+remove-planned-requires : tie.Need-remove-planned-requires
+remove-planned-requires c κs =
+    let pre = begins (c .before .before .before .before) .pre in
+    (pre .0, ((pre .1 .0 .0, pre .1 .1 .0 .long), refl))
+
+choose-label-requires : tie.Need-choose-label-requires
+choose-label-requires c κs = search needs
+
+add-body-requires : tie.Need-add-body-requires
+add-body-requires c κs = accepted-room (known (c .before .before))
+
+sub-gone : tie.Need-sub-gone
+sub-gone c =
+    let added : tie.After-add-body = c .before .before .before .before in
+    accepted-fewer (known (chosen added)) (held (chosen added) .held-bodies .ensures)
+
+add-settle : tie.Need-add-settle
+add-settle c =
+    let added : tie.After-add-body = c .before .before .before .before .before .before in
+    record { fits = records-fit (known (chosen added)) }
+
+add-settle-2 : tie.Need-add-settle-2
+add-settle-2 c =
+    let added : tie.After-add-body = c .before .before .before .before .before .before .before in
+    record { fits = entries-fit (known (chosen added)) }
+
+settle-requires : tie.Need-settle-requires
+settle-requires c κs =
+    let added : tie.After-add-body = c .before .before .before .before .before .before .before in
+    accepted-settles (known (chosen added)) (added .add-body .kept .0 ∙ known (chosen added) .long)
+    (added .add-body .ensures)
+
+same-length : tie.Need-same-length
+same-length c = search needs
+
+same-length-2 : tie.Need-same-length-2
+same-length-2 c = search needs
+
+returns : tie.Need-returns
+returns c =
+    let settled : tie.After-settle = c .before .before in
+    let added : tie.After-add-body = settled .before .before .before .before .before .before .before .before in
+    accepted-does (known (chosen added)) (held (chosen added) .held-bodies .ensures)
+    (added .add-body .kept .0 ∙ known (chosen added) .long) (added .add-body .ensures)
+    (start (chosen added) .pre .1 .0 .0) (settled .settle .ensures)
+
+pub accept-spec : {M : Type 1} → statement M
+accept-spec =
+    tie.close
+    (tie.spec
+    held-bodies-requires
+    remove-planned-requires
+    choose-label-requires
+    add-body-requires
+    sub-gone
+    add-settle
+    add-settle-2
+    settle-requires
+    same-length
+    same-length-2
+    returns)

@@ -1,0 +1,59 @@
+use Rattle.pending_offer.proofs.PlanSteps.{entries-within, bodies-few, records-within}
+use Rattle.pending_offer.proofs.PlanOffers.{held-scaled, handed-start, handed-within, gone-few, gone-scaled}
+use Rattle.pending_offer.proofs.PlanOffers.{stay-start, gone-within, stay-within, plan-done}
+use borrow.Author.Needs.{needs}
+use Rattle.pending_offer.proofs.plan.plan_offer.Statement.{statement}
+use Rattle.pending_offer.proofs.plan.plan_offer.Tie as tie
+
+records-at-requires : tie.Need-records-at-requires
+records-at-requires c κs = search (bodies-few, needs)
+
+evictions-for-requires : tie.Need-evictions-for-requires
+evictions-for-requires c κs = search needs
+
+mul-stay : tie.Need-mul-stay
+mul-stay c = search (gone-scaled, needs)
+
+add-stay : tie.Need-add-stay
+add-stay c = search (stay-start, needs)
+
+sub-left : tie.Need-sub-left
+sub-left c = search (gone-few, needs)
+
+skip-records-requires : tie.Need-skip-records-requires
+skip-records-requires c κs = search (gone-within, needs)
+
+mul-skip-records : tie.Need-mul-skip-records
+mul-skip-records c = search (held-scaled, needs)
+
+add-skip-records : tie.Need-add-skip-records
+add-skip-records c = search (handed-start, needs)
+
+skip-records-requires-2 : tie.Need-skip-records-requires-2
+skip-records-requires-2 c κs = search (handed-within, needs)
+
+decide-requires : tie.Need-decide-requires
+decide-requires c κs = search (entries-within, stay-within, needs)
+
+label-for-requires : tie.Need-label-for-requires
+label-for-requires c κs = search (records-within, needs)
+
+returns : tie.Need-returns
+returns c = search (plan-done, needs)
+
+pub plan-offer-spec : {M : Type 1} → statement M
+plan-offer-spec =
+    tie.close
+    (tie.spec
+    records-at-requires
+    evictions-for-requires
+    mul-stay
+    add-stay
+    sub-left
+    skip-records-requires
+    mul-skip-records
+    add-skip-records
+    skip-records-requires-2
+    decide-requires
+    label-for-requires
+    returns)

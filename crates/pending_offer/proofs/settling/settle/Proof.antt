@@ -1,0 +1,33 @@
+use borrow.Author.Needs.{needs}
+use Rattle.pending_offer.proofs.HeldBodies.{header-settled}
+use Rattle.pending_offer.proofs.settling.settle.Statement.{statement}
+use Rattle.pending_offer.proofs.settling.settle.Tie as tie
+
+held-bytes-requires : tie.Need-held-bytes-requires
+held-bytes-requires c κs = search needs
+
+raised-requires : tie.Need-raised-requires
+raised-requires c κs = search needs
+
+raised-requires-2 : tie.Need-raised-requires-2
+raised-requires-2 c κs = search needs
+
+write-header-requires : tie.Need-write-header-requires
+write-header-requires c κs = search needs
+
+same-length : tie.Need-same-length
+same-length c = search needs
+
+returns : tie.Need-returns
+returns c = search (header-settled, needs)
+
+pub settle-spec : {M : Type 1} → statement M
+settle-spec =
+    tie.close
+    (tie.spec
+    held-bytes-requires
+    raised-requires
+    raised-requires-2
+    write-header-requires
+    same-length
+    returns)

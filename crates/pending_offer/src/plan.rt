@@ -1,0 +1,263 @@
+// What an offer decides before anything is written: steps 2 to 5.
+ghost use mathlib.Core.Path.{_≡_};
+ghost use mathlib.Core.Bool.{true, cond};
+ghost use Prim.Native.Nat.{_+_, _*_, _≤_};
+ghost use lib.Dec.{leb};
+ghost use lib.ListN.{length, set, replicate};
+ghost use Rattle.config.specs.Limits.{recordWords, entryWords};
+ghost use Rattle.table.specs.Layout.{limitsOf, entriesAt};
+ghost use Rattle.table.specs.Table.{tableOf, entriesFrom, recordsFrom};
+ghost use Rattle.table.specs.Reads.{labelOf};
+ghost use Rattle.table.specs.WellFormed.{wellFormed};
+ghost use Rattle.table_records.specs.Choose.{skipAll, liveRecords, firstLive};
+ghost use Rattle.cache_model.specs.Removal.{evictions};
+ghost use Rattle.pending_flows.specs.Header.{figuresAt};
+ghost use Rattle.pending_flows.specs.View.{cacheOf};
+ghost use Rattle.pending_offer.specs.Plan.{liveTest, liveSums, labelOr, liveAt, othersFill, Decides, Plans};
+use config::PendingFlowsConfig;
+use config::RECORD_WORDS;
+use config::Ttl;
+use pending_flows::HeaderFigures;
+use table::LABELS;
+use table::LabelFound;
+use table::label_of;
+use table::records_at;
+use table_entries::StayTest;
+use table_entries::sums_by_label;
+use table_records::evictions_of;
+use table_records::first_live;
+use table_records::live_records;
+use table_records::set_sum;
+use table_records::skip_records;
+use table_records::sum_of;
+
+// More than any template has.
+const SKIP_ALL: u32 = 262144;
+
+// What an offer decides: whether the template is full (20), the id's label (1,024 where the id is not held), and
+// whether expired bodies of all ids go or only the id's.
+pub struct OfferPlan {
+    pub full: bool,
+    pub label: u64,
+    pub all: bool,
+}
+
+// What is decided by the templates that step 2 leaves.
+struct Decision {
+    full: bool,
+    all: bool,
+}
+
+// The test by which bodies that are not expired stay.
+fn live_test(ttl: Ttl, clock: u64) -> StayTest
+    ensures { λ r. ⌜ r ≡ liveTest ttl clock ⌝ }
+{
+    StayTest {
+        ttl,
+        clock,
+        all: true,
+        label: LABELS as u64,
+        max_size: 18446744073709551615,
+    }
+}
+
+// The label that was found, or what is no label.
+fn label_or(found: LabelFound) -> u64
+    ensures { λ r. ⌜ r ≡ labelOr found ⌝ }
+{
+    match found {
+        LabelFound::At(label) => label,
+        LabelFound::Nothing => LABELS as u64,
+    }
+}
+
+// The label of an id; where no record has the id, what is no label.
+fn label_for(words: &[u64], from: usize, records: usize, id: u64) -> u64
+    requires { ⌜ from + recordWords * records ≤ length (now words) ⌝ }
+    ensures { λ r. ⌜ r ≡ labelOr (labelOf id (recordsFrom (now (words .entry)) from records)) ⌝ }
+{
+    label_or(label_of(words, from, records, id))
+}
+
+// How many live bodies the label that was found has.
+fn live_at(live: &[u32; LABELS], found: LabelFound) -> u32
+    ensures { λ r. ⌜ r ≡ liveAt (now (live .entry)) found ⌝ }
+{
+    match found {
+        LabelFound::At(label) => sum_of(live, label),
+        LabelFound::Nothing => 0,
+    }
+}
+
+// Whether the records but the one that was found are as many as there may be.
+fn others_fill(found: LabelFound, records: usize, most: usize) -> bool
+    ensures { λ r. ⌜ r ≡ othersFill found records most ⌝ }
+{
+    match found {
+        LabelFound::At(_) => most < records,
+        LabelFound::Nothing => most <= records,
+    }
+}
+
+// Step 2: how many least recent templates go until a body of this length fits.
+fn evictions_for(
+    words: &[u64],
+    bytes: &[u8],
+    limits: PendingFlowsConfig,
+    figures: HeaderFigures,
+    len: usize,
+) -> usize
+    requires { ⌜ (wellFormed (now words) (length (now bytes)) ≡ true) × (limits ≡ limitsOf (now words)) ⌝ }
+    requires { ⌜ (figures ≡ figuresAt (now words)) × (len ≤ limits .«max_total_bytes») ⌝ }
+    ensures { λ r.
+        ⌜ r ≡ evictions (limits .«max_total_bytes») len (cacheOf (tableOf (now (words .entry))) (now (bytes .entry))
+        .held) ⌝ }
+{
+    let room = (limits.max_total_bytes - len) as u64;
+    if figures.total <= room {
+        return 0;
+    }
+    // expired bodies count: they go after this step, and with no time to live none is expired
+    let ttl = Ttl::None;
+    let mut sizes = [0u32; LABELS];
+    sums_by_label(
+        words,
+        figures.entries as usize,
+        live_test(ttl, 0),
+        true,
+        &mut sizes,
+    );
+    evictions_of(
+        words,
+        records_at(limits),
+        figures.templates as usize,
+        room,
+        figures.total,
+        &sizes,
+    )
+}
+
+// Has the least recent template with live bodies skipped, where those templates are as many as there may be.
+fn skip_first(
+    words: &[u64],
+    from: usize,
+    records: usize,
+    most: usize,
+    live: &[u32; LABELS],
+    skip: &mut [u32; LABELS],
+)
+    requires { ⌜ from + recordWords * records ≤ length (now words) ⌝ }
+    ensures { λ _.
+        ⌜ now (skip .exit) ≡ cond (leb most (liveRecords (now (live .entry)) (recordsFrom (now (words .entry)) from
+        records))) (set (now (skip .entry)) (firstLive (now (live .entry)) (recordsFrom (now (words .entry)) from
+        records)) skipAll) (now (skip .entry)) ⌝ }
+{
+    if live_records(words, from, records, live) < most {
+        return;
+    }
+    set_sum(skip, first_live(words, from, records, live), SKIP_ALL);
+}
+
+// Steps 3 to 5, by the records that step 2 leaves and the live bodies of each label.
+fn decide_by(
+    words: &[u64],
+    limits: PendingFlowsConfig,
+    from: usize,
+    records: usize,
+    id: u64,
+    live: &[u32; LABELS],
+    skip: &mut [u32; LABELS],
+) -> Decision
+    requires { ⌜ from + recordWords * records ≤ length (now words) ⌝ }
+    ensures { λ r.
+        ⌜ Decides limits id (now (live .entry)) (recordsFrom (now (words .entry)) from records) (now (skip .entry))
+        (now (skip .exit)) r ⌝ }
+{
+    let found = label_of(words, from, records, id);
+    let here = live_at(live, found) as usize;
+    if 0 < here {
+        return Decision {
+            full: limits.max_entries_per_template <= here,
+            all: false,
+        };
+    }
+    if others_fill(found, records, limits.max_pending_flows) {
+        skip_first(words, from, records, limits.max_pending_flows, live, skip);
+        return Decision {
+            full: false,
+            all: true,
+        };
+    }
+    Decision {
+        full: false,
+        all: false,
+    }
+}
+
+// Steps 3 to 5, by the records that step 2 leaves and the entries.
+fn decide(
+    words: &[u64],
+    limits: PendingFlowsConfig,
+    entries: usize,
+    from: usize,
+    records: usize,
+    id: u64,
+    clock: u64,
+    skip: &mut [u32; LABELS],
+) -> Decision
+    requires { ⌜ entriesAt + entryWords * entries ≤ length (now words) ⌝ }
+    requires { ⌜ from + recordWords * records ≤ length (now words) ⌝ }
+    ensures { λ r.
+        ⌜ Decides limits id (liveSums (limits .ttl) clock (entriesFrom (now (words .entry)) entriesAt entries))
+        (recordsFrom (now (words .entry)) from records) (now (skip .entry)) (now (skip .exit)) r ⌝ }
+{
+    let ttl = limits.ttl;
+    let mut live = [0u32; LABELS];
+    sums_by_label(words, entries, live_test(ttl, clock), false, &mut live);
+    decide_by(words, limits, from, records, id, &live, skip)
+}
+
+// What an offer of a body of this length decides. Sets in `skip` how many of each label's oldest bodies go.
+pub fn plan_offer(
+    words: &[u64],
+    bytes: &[u8],
+    limits: PendingFlowsConfig,
+    figures: HeaderFigures,
+    id: u64,
+    len: usize,
+    clock: u64,
+    skip: &mut [u32; LABELS],
+) -> OfferPlan
+    requires { ⌜ (wellFormed (now words) (length (now bytes)) ≡ true) × (limits ≡ limitsOf (now words)) ⌝ }
+    requires { ⌜ (figures ≡ figuresAt (now words)) × (len ≤ limits .«max_total_bytes») ⌝ }
+    requires { ⌜ now skip ≡ replicate 1024 0 ⌝ }
+    ensures { λ r. ⌜ Plans (now (words .entry)) (now (bytes .entry)) id len clock (now (skip .exit)) r ⌝ }
+{
+    let from = records_at(limits);
+    let held = figures.templates as usize;
+    let evicted = evictions_for(words, bytes, limits, figures, len);
+    let stay = from + RECORD_WORDS * evicted;
+    let left = held - evicted;
+    skip_records(words, from, evicted, skip);
+    skip_records(
+        words,
+        from + RECORD_WORDS * held,
+        figures.chance as usize,
+        skip,
+    );
+    let decision = decide(
+        words,
+        limits,
+        figures.entries as usize,
+        stay,
+        left,
+        id,
+        clock,
+        skip,
+    );
+    OfferPlan {
+        full: decision.full,
+        label: label_for(words, from, held, id),
+        all: decision.all,
+    }
+}

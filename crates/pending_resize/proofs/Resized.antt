@@ -1,0 +1,252 @@
+-- A resized cache: what is left, under the new header. Assumes nothing.
+use mathlib.Core.Path.{_≡_, sym, ap, _∙_}
+use mathlib.Core.Bool.{true}
+use mathlib.Core.List.{List, [], _++_, append-nil}
+use mathlib.Core.Option.{some}
+use Prim.Native.Nat.{ℕ, _+_, _*_, _-_, _≤_, max}
+use native.Mathlib.Omega.{arith}
+use lib.ListN.{length, take, drop, drop-of-length-le}
+use lib.Seq.{take-all}
+use Rattle.areas.specs.Overwrite.{overwritten}
+use Rattle.config.specs.declared.PendingFlowsConfig.{PendingFlowsConfig}
+use Rattle.config.specs.Limits.{headerWords, recordWords, entryWords, maxBodies, wordsNeeded, configNumber}
+use Rattle.config.proofs.Limits as Config
+use Rattle.table.specs.declared.Entry.{Entry}
+use Rattle.table.specs.declared.TemplateRecord.{TemplateRecord}
+use Rattle.table.specs.Layout.{limitsOf, heldCount, entryCount, chanceCount, entriesAt, recordsAt}
+use Rattle.table.specs.Table.{tableOf, entriesFrom, recordsFrom, indexFrom, records, tally}
+use Rattle.table.specs.Reads.{countSum}
+use Rattle.table.specs.WellFormed.{wellFormed}
+use Rattle.table.proofs.Words.{length-records, length-entries, length-index, records-behind}
+use Rattle.table.proofs.Facts.{LegalTable, table-says, LegalWords, words-say}
+use Rattle.table_entries.specs.Sums.{heldSum}
+use Rattle.table_entries.proofs.Frames.{entries-above}
+use Rattle.table_records.proofs.Frames.{records-above, drop-more}
+use Rattle.cache_model.specs.Bodies.{Template, allBodies}
+use Rattle.cache_model.specs.Cache.{Cache, count, raised}
+use Rattle.cache_model.specs.Calls.{shrunk, resizedTo}
+use Rattle.cache_model.proofs.Drops.{resize-drops}
+use Rattle.cache_model.proofs.Calls.{Limited, resized-to-within}
+use Rattle.pending_flows.specs.View.{areasOf, cacheOf, view}
+use Rattle.pending_flows.specs.declared.header.HeaderFigures.{HeaderFigures}
+use Rattle.pending_flows.specs.Header.{figuresAt, headerOf}
+use Rattle.pending_flows.proofs.Templates.{length-all-bodies}
+use Rattle.pending_flows.proofs.Weights.{counts-sum, count-append}
+use Rattle.pending_calls.specs.declared.removal.Removed.{Removed}
+use Rattle.pending_calls.proofs.Headers.{headed, headed-flag, headed-limits, headed-length, headed-behind}
+use Rattle.pending_calls.proofs.IndexFrames.{index-above}
+use Rattle.table_view.proofs.Tied.{Tied, legal-tied, words-tied}
+use Rattle.table_view.proofs.Stored.{limits-legal, legal-limited, Stored, tableWith, stored-view}
+use Rattle.pending_resize.specs.Shrink.{tableLeft, Shrinks}
+use Rattle.pending_resize.specs.Promises.{ResizesTo}
+use Rattle.pending_resize.proofs.Rows.{Rows, rows-small}
+use Rattle.pending_resize.proofs.Chosen.{all-front}
+use Rattle.pending_resize.proofs.Fits.{rows-total}
+
+-- ---- what is read of a well-formed cache
+
+module _ (w : List ℕ) (n : ℕ) (ok : wellFormed w n ≡ true) where
+  legal : LegalWords w n
+  legal = words-say w n ok
+
+  pub header-long : headerWords ≤ length w
+  header-long = legal .header-long
+
+  module _ (was : PendingFlowsConfig) (limits : was ≡ limitsOf w) where
+    pub old-bodies-few : maxBodies was ≤ 262144
+    old-bodies-few = rw limits (legal .limits-legal .bodies-few)
+
+    module _ (p : ℕ) (at : p ≡ recordsAt was) where
+      pub old-place : p ≡ recordsAt (limitsOf w)
+      old-place = at ∙ ap recordsAt limits
+
+      module _ (f : HeaderFigures) (figures : f ≡ figuresAt w) where
+        pub records-within : p + recordWords * (f .templates + f .chance) ≤ length w
+        records-within =
+            rw (old-place, figures) (omega (arith, legal .templates-fit, legal .limits-legal .words-enough))
+
+        pub handed-single : f .chance ≤ 1
+        handed-single = rw figures (legal .chance-flag)
+
+-- ---- what is left of it
+
+module _ (l : PendingFlowsConfig) (w b : List ℕ)
+    (ok : (wellFormed w (length b) ≡ true) × (configNumber l (length b) (length w) ≡ 0)) where
+  old : LegalWords w (length b)
+  old = words-say w (length b) (ok .0)
+
+  new : Config.LegalLimits l (length b) (length w)
+  new = Config.limits-say l (length b) (length w) (ok .1)
+
+  abbrev cache : Cache
+  cache = cacheOf (tableOf w) b
+
+  -- held bodies and handed-out ones are all
+  held-count : length (allBodies (cache .held)) + countSum (tableOf w .handed) ≡ entryCount w
+  held-count =
+      let t = tableOf w in
+      let tied = words-tied w (length b) old in
+      let Counted : TemplateRecord → Type 0 = λ r. r .count ≡ tally (r .label) (t .entries) in
+      let front = all-front Counted (t .held) (t .handed) (tied .counts-right) in
+      omega (
+        arith,
+        length-all-bodies b (t .entries) (t .held) front,
+        count-append (t .held) (t .handed),
+        counts-sum (t .held ++ t .handed) (t .entries) (tied .labels-differ) (tied .labels-known)
+            (tied .counts-right),
+        length-entries w entriesAt (entryCount w),
+      )
+
+  module _ (w₁ b₁ : List ℕ) (left : Removed) (s : Shrinks l w b w₁ b₁ left) where
+    abbrev k : ℕ
+    k = left .records
+
+    abbrev m : ℕ
+    m = left .entries
+
+    abbrev rs : List TemplateRecord
+    rs = recordsFrom w₁ (recordsAt l) k
+
+    abbrev es : List Entry
+    es = entriesFrom w₁ entriesAt m
+
+    abbrev is : List ℕ
+    is = indexFrom w₁ (recordsAt l) k
+
+    left-legal : LegalTable (tableLeft l k m w₁) is
+    left-legal = table-says (tableLeft l k m w₁) is (s .legal)
+
+    left-tied : Tied rs es is
+    left-tied =
+        let long = length-index w₁ (recordsAt l) k ∙ sym (length-records w₁ (recordsAt l) k) in
+        rw append-nil at (legal-tied (tableLeft l k m w₁) is left-legal (rw append-nil long))
+
+    left-rows : Rows (recordsAt l) k m (l .«max_total_bytes») w₁
+    left-rows = record {
+      tied = left-tied;
+      placed = left-legal .entries-placed;
+      records-few = omega (arith, s .few-records, new .templates-few);
+      entries-few = omega (arith, s .few-entries, new .bodies-few);
+      bytes-few = new .total-small;
+    }
+
+    left-count : length (allBodies (shrunk l (cache .held) .held)) ≡ m
+    left-count =
+        ap (λ (ts : List Template). length (allBodies ts)) (sym (s .templates))
+        ∙ length-all-bodies b₁ es rs (left-tied .counts-right)
+        ∙ counts-sum rs es (left-tied .labels-differ) (left-tied .labels-known) (left-tied .counts-right)
+        ∙ length-entries w₁ entriesAt m
+
+    long : length w₁ ≡ length w
+    long = s .frame .words-long
+
+    pub entries-within : entriesAt + entryWords * m ≤ length w₁
+    entries-within = omega (arith, s .few-entries, new .words-enough, long)
+
+    pub bytes-small : heldSum 1024 es ≤ 18446744073709551615
+    bytes-small = rows-small left-rows
+
+    pub left-header : headerWords ≤ length w₁
+    left-header = omega (arith, old .header-long, long)
+
+    module _ (was : PendingFlowsConfig) (p : ℕ) (f : HeaderFigures) (handed : ℕ) (limits : was ≡ limitsOf w)
+        (at : p ≡ recordsAt was) (figures : f ≡ figuresAt w)
+        (counted : handed ≡ countSum (recordsFrom w (p + recordWords * f .templates) (f .chance))) where
+      handed-are : handed ≡ countSum (tableOf w .handed)
+      handed-are =
+          let behind = records-behind w (recordsAt (limitsOf w)) (heldCount w) (chanceCount w) in
+          counted ∙ rw (at, limits, figures) (ap countSum (sym behind))
+
+      removed-count : length (shrunk l (cache .held) .removed) + m + handed ≡ f .entries
+      removed-count =
+          let all : entryCount w ≡ f .entries = ap (λ (g : HeaderFigures). g .entries) (sym figures) in
+          omega (arith, resize-drops l (cache .held), left-count, held-count, handed-are)
+
+      pub handed-few : handed ≤ f .entries
+      handed-few = omega (arith, removed-count)
+
+      pub left-few : m ≤ f .entries - handed
+      left-few = omega (arith, removed-count)
+
+      -- ---- under the new header
+
+      abbrev after : ℕ → ℕ → HeaderFigures
+      after dropped total = record {
+        cached = f .cached;
+        dropped = dropped;
+        total = total;
+        templates = k;
+        entries = m;
+        chance = 0;
+      }
+
+      module _ (dropped total : ℕ) (w₂ : List ℕ) (sum : total ≡ heldSum 1024 es)
+          (more : dropped ≡ raised (f .dropped) (f .entries - handed - m))
+          (written : w₂ ≡ overwritten w₁ (headerOf l (after dropped total))) where
+        is-headed : w₂ ≡ headed l (after dropped total) w₁
+        unfolding overwritten
+        is-headed = written
+
+        behind : drop entriesAt w₂ ≡ drop entriesAt w₁
+        behind = rw is-headed (headed-behind l (after dropped total) w₁ entriesAt (omega arith))
+
+        stored : Stored l (f .cached) dropped total k m 0 rs es is w₂
+        stored =
+            let z : k + 0 ≡ k = omega arith in
+            record {
+              limits-are = rw is-headed (headed-limits l (after dropped total) w₁);
+              ttl-flag = rw is-headed (headed-flag l (after dropped total) w₁);
+              cached-is = rw is-headed;
+              dropped-is = rw is-headed;
+              total-is = rw is-headed;
+              held-are = rw is-headed;
+              entries-many = rw is-headed;
+              chance-is = rw is-headed;
+              records-are = rw z (records-above w₂ w₁ (recordsAt l) k entriesAt (omega arith) behind);
+              index-is = rw z (index-above w₂ w₁ (recordsAt l) k entriesAt (omega arith) behind);
+              entries-are = entries-above w₂ w₁ entriesAt m entriesAt (omega arith) behind;
+            }
+
+        dropped-count : f .entries - handed - m ≡ length (shrunk l (cache .held) .removed)
+        dropped-count = omega (arith, removed-count)
+
+        resized-cache : cacheOf (tableWith l (f .cached) dropped total k rs es) b₁
+            ≡ resizedTo l cache (shrunk l (cache .held)) .cache
+        unfolding resizedTo
+        resized-cache =
+            let whole : take k rs ≡ rs = take-all k rs (omega (arith, length-records w₁ (recordsAt l) k)) in
+            let none : drop k rs ≡ [] =
+            drop-of-length-le rs {i = k} (omega (arith, length-records w₁ (recordsAt l) k)) in
+            rw (whole, none, s .templates, more, dropped-count, figures)
+
+        headed-long : length w₂ ≡ length w₁
+        headed-long = rw is-headed (headed-length l (after dropped total) w₁ (omega (arith, left-header)))
+
+        limited : Limited (cacheOf (tableWith l (f .cached) dropped total k rs es) b₁)
+        limited = rw resized-cache (resized-to-within cache (legal-limited w b old) l (limits-legal new))
+
+        bytes-long : length b₁ ≡ length b
+        bytes-long = s .frame .bytes-long
+
+        holds : view (areasOf w₂ b₁) ≡ some (resizedTo l cache (shrunk l (cache .held)) .cache)
+        holds =
+            let whole : take k rs ≡ rs = take-all k rs (omega (arith, length-records w₁ (recordsAt l) k)) in
+            let legal : Config.LegalLimits l (length b₁) (length w₂) = rw (bytes-long, headed-long, long) new in
+            stored-view stored b₁ (omega arith) legal (omega (arith, left-header, headed-long)) left-tied
+            (left-rows .placed) (sum ∙ rw whole (rows-total left-rows)) limited .1
+            ∙ ap some resized-cache
+
+        pub resizes-to : ResizesTo l cache (areasOf w b) (f .entries - handed - m) (areasOf w₂ b₁)
+        unfolding resizedTo
+        resizes-to =
+            let past = max (wordsNeeded (limitsOf w)) (wordsNeeded l) in
+            record {
+              answer = ap count dropped-count;
+              holds = holds;
+              frame = record {
+                words-behind = drop-more past entriesAt w₂ w₁ (omega arith) behind ∙ s .frame .words-behind;
+                bytes-behind = s .frame .bytes-behind;
+                words-long = headed-long ∙ long;
+                bytes-long = bytes-long;
+              };
+            }

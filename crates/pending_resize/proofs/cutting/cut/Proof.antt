@@ -1,0 +1,33 @@
+use borrow.Author.Needs.{needs}
+use Rattle.pending_resize.proofs.Steps.{cut-skips-long, removed-as}
+use Rattle.pending_resize.proofs.cutting.cut.Statement.{statement}
+use Rattle.pending_resize.proofs.cutting.cut.Tie as tie
+
+skip-cut-requires : tie.Need-skip-cut-requires
+skip-cut-requires c κs = search needs
+
+add-remove-skipped : tie.Need-add-remove-skipped
+add-remove-skipped c = search needs
+
+small-enough-requires : tie.Need-small-enough-requires
+small-enough-requires c κs = search needs
+
+remove-skipped-requires : tie.Need-remove-skipped-requires
+remove-skipped-requires c κs = search (cut-skips-long, needs)
+
+same-length : tie.Need-same-length
+same-length c = search needs
+
+returns : tie.Need-returns
+returns c = search (removed-as, needs)
+
+pub cut-spec : {M : Type 1} → statement M
+cut-spec =
+    tie.close
+    (tie.spec
+    skip-cut-requires
+    add-remove-skipped
+    small-enough-requires
+    remove-skipped-requires
+    same-length
+    returns)

@@ -1,0 +1,5 @@
+pub mod Grammar
+pub mod Starts
+pub mod Body
+pub mod Digits
+pub mod Tests

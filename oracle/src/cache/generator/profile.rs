@@ -1,0 +1,154 @@
+//! What sort of lists are drawn.
+
+use crate::cache::limits::{Areas, Limits};
+use crate::random::Random;
+
+/// The areas that a replaying program has: those of document 01's `pendlist`.
+pub const REPLAYED: Areas = Areas { bytes: 16_384, words: 4_096 };
+
+/// How often each call is drawn, beside the others.
+pub struct Weights {
+    pub offer: u64,
+    pub drain: u64,
+    pub put_back: u64,
+    pub resize: u64,
+    pub clear: u64,
+    pub would_accept: u64,
+    pub read: u64,
+    pub refused_opening: u64,
+}
+
+pub struct Profile {
+    pub weights: Weights,
+    pub limits: fn(&mut Random) -> Limits,
+    /// The areas lent for these limits, mostly more than needed.
+    pub areas: fn(&mut Random, &Limits) -> Areas,
+    /// Whether a resize may bring limits that are far from the opening's, and another TTL.
+    pub wide_resizes: bool,
+    /// The first calls of a list are offers, up to so many.
+    pub first_offers: u64,
+    /// Ids from 300 on, the first of them more often.
+    pub ids: u64,
+    pub hot_percent: u64,
+    /// How often a length is one at which an answer changes. The others are drawn below these.
+    pub special_percent: u64,
+    pub lengths: &'static [u64],
+}
+
+/// Caches of a few bodies: a list comes to every branch often.
+pub const SMALL: Profile = Profile {
+    weights: Weights {
+        offer: 520,
+        drain: 150,
+        put_back: 50,
+        resize: 80,
+        clear: 12,
+        would_accept: 100,
+        read: 10,
+        refused_opening: 12,
+    },
+    limits: small_limits,
+    areas: small_areas,
+    wide_resizes: true,
+    first_offers: 8,
+    ids: 4,
+    hot_percent: 30,
+    special_percent: 50,
+    lengths: &[1, 2, 4, 12],
+};
+
+/// As many bodies as go into the areas of a replaying program, and enough calls for the
+/// original's recount.
+pub const MIDDLE: Profile = Profile {
+    weights: Weights {
+        offer: 780,
+        drain: 40,
+        put_back: 50,
+        resize: 4,
+        clear: 1,
+        would_accept: 100,
+        read: 20,
+        refused_opening: 5,
+    },
+    limits: middle_limits,
+    areas: |_, _| REPLAYED,
+    wide_resizes: true,
+    first_offers: 300,
+    ids: 24,
+    hot_percent: 25,
+    special_percent: 2,
+    lengths: &[16, 64, 64, 200, 1_024],
+};
+
+/// The default limits, filled by the number of bodies and templates.
+pub const DEFAULTS_BY_COUNT: Profile = Profile {
+    weights: Weights {
+        offer: 9_500,
+        drain: 60,
+        put_back: 40,
+        resize: 6,
+        clear: 0,
+        would_accept: 300,
+        read: 10,
+        refused_opening: 10,
+    },
+    limits: |_| Limits::DEFAULTS,
+    areas: |_, limits| limits.areas().expect("the default limits are legal"),
+    wide_resizes: false,
+    first_offers: 8_000,
+    ids: 320,
+    hot_percent: 40,
+    special_percent: 0,
+    lengths: &[0, 16, 100, 1_500],
+};
+
+/// The default limits, filled by bytes.
+pub const DEFAULTS_BY_BYTES: Profile = Profile {
+    ids: 200,
+    hot_percent: 5,
+    special_percent: 4,
+    lengths: &[100, 1_500, 65_531, 65_531, 65_531],
+    ..DEFAULTS_BY_COUNT
+};
+
+fn small_limits(random: &mut Random) -> Limits {
+    let templates = random.pick(&[1, 2, 2, 3, 3, 4]);
+    let bodies = random.pick(&[1, 2, 2, 3, 3, 4]);
+    let entry = random.pick(&[1, 2, 3, 5, 8, 12]);
+    let total = match random.below(10) {
+        0 => entry,
+        1..=4 => entry + random.below(2 * entry + 1),
+        _ => entry + random.below(templates * bodies * entry + 1),
+    };
+    Limits { templates, bodies, entry, total, ttl: any_ttl(random) }
+}
+
+fn small_areas(random: &mut Random, limits: &Limits) -> Areas {
+    let needed = limits.areas().expect("small limits are legal");
+    match random.below(4) {
+        0 => needed,
+        1 => {
+            Areas { bytes: needed.bytes + random.below(12), words: needed.words + random.below(60) }
+        }
+        _ => REPLAYED,
+    }
+}
+
+fn middle_limits(random: &mut Random) -> Limits {
+    let (templates, bodies) = random.pick(&[(16, 32), (8, 100), (20, 4), (1, 900)]);
+    let total = random.pick(&[16_384, 16_384, 6_000]);
+    Limits { templates, bodies, entry: 1_024, total, ttl: any_ttl(random) }
+}
+
+/// None, 0, small and large.
+pub fn any_ttl(random: &mut Random) -> Option<u64> {
+    match random.below(20) {
+        0..=5 => None,
+        6..=7 => Some(0),
+        8..=15 => Some(1 + random.below(12)),
+        16 => Some(1_000),
+        17 => Some(1 << 40),
+        18 => Some(1 << 63),
+        _ => Some(u64::MAX),
+    }
+}

@@ -1,0 +1,106 @@
+//! The lists of calls that are streamed and counted, in parts.
+
+use super::call::Call;
+use super::counts::Counts;
+use super::exhaustive;
+use super::generator::Generator;
+use super::generator::profile::{DEFAULTS_BY_BYTES, DEFAULTS_BY_COUNT, MIDDLE, Profile, SMALL};
+use super::limits::Limits;
+use super::rows::Rows;
+use std::io::{self, Write};
+
+/// Calls of a list after its opening, at most.
+const SMALL_LIST: u64 = 60;
+
+const MIDDLE_LISTS: u64 = 20;
+const MIDDLE_LIST: u64 = 5_000;
+
+#[derive(Clone, Copy)]
+pub enum Part {
+    /// All lists of up to 4 calls of a small alphabet.
+    Exhaustive,
+    /// Lists by chance, on caches of a few bodies.
+    Small { seed: u64, lists: u64 },
+    /// A few long lists by chance, on caches of some hundred bodies.
+    Middle { seed: u64 },
+    /// Two long lists by chance at the default limits: one with many bodies, one with large ones.
+    Defaults { seed: u64, calls: u64 },
+}
+
+impl Part {
+    /// Writes the rows of the parts, and answers the counts of each.
+    pub fn write_all(parts: &[Self], out: impl Write) -> io::Result<Vec<(&'static str, Counts)>> {
+        let mut rows = Rows::new(out);
+        let mut counts = Vec::new();
+        for part in parts {
+            part.write(&mut rows)?;
+            counts.push((part.name(), std::mem::take(&mut rows.counts)));
+        }
+        rows.out.flush()?;
+        Ok(counts)
+    }
+
+    fn name(self) -> &'static str {
+        match self {
+            Self::Exhaustive => "exhaustive",
+            Self::Small { .. } => "small",
+            Self::Middle { .. } => "middle",
+            Self::Defaults { .. } => "defaults",
+        }
+    }
+
+    fn write<W: Write>(self, rows: &mut Rows<W>) -> io::Result<()> {
+        match self {
+            Self::Exhaustive => exhaustive::for_each_list(|calls| rows.add_all(calls)),
+            Self::Small { seed, lists } => {
+                let mut generator = Generator::new(seed, &SMALL);
+                (0..lists).try_for_each(|_| write_list(rows, &mut generator, SMALL_LIST))
+            }
+            Self::Middle { seed } => {
+                let mut generator = Generator::new(seed, &MIDDLE);
+                (0..MIDDLE_LISTS).try_for_each(|_| write_calls(rows, &mut generator, MIDDLE_LIST))
+            }
+            Self::Defaults { seed, calls } => {
+                for profile in [&DEFAULTS_BY_COUNT, &DEFAULTS_BY_BYTES] as [&'static Profile; 2] {
+                    write_calls(rows, &mut Generator::new(seed, profile), calls)?;
+                    rows.add_all(&shrinking())?;
+                }
+                Ok(())
+            }
+        }
+    }
+}
+
+/// What a list at the default limits ends with: each limit in turn is lowered far.
+fn shrinking() -> Vec<Call> {
+    let by_bytes = Limits { total: 8_000_000, ..Limits::DEFAULTS };
+    let by_templates = Limits { templates: 200, ..by_bytes };
+    let by_bodies = Limits { bodies: 30, ..by_templates };
+    let by_size = Limits { entry: 1_000, ..by_bodies };
+    let by_age = Limits { ttl: Some(0), ..by_size };
+    let resizes = [by_bytes, by_templates, by_bodies, by_size, by_age].map(Call::Resize);
+    [&resizes[..], &[Call::Clear]].concat()
+}
+
+/// An opening and some calls, at least one and at most so many.
+pub fn write_list<W: Write>(
+    rows: &mut Rows<W>,
+    generator: &mut Generator,
+    longest: u64,
+) -> io::Result<()> {
+    let calls = 1 + generator.random.below(longest);
+    write_calls(rows, generator, calls)
+}
+
+fn write_calls<W: Write>(
+    rows: &mut Rows<W>,
+    generator: &mut Generator,
+    calls: u64,
+) -> io::Result<()> {
+    rows.add(&generator.opening())?;
+    for _ in 0..calls {
+        let call = generator.next(rows.account());
+        rows.add(&call)?;
+    }
+    Ok(())
+}

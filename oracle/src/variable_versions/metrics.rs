@@ -1,0 +1,3 @@
+//! The original `metrics.rs`.
+
+include!(concat!(env!("OUT_DIR"), "/metrics.rs"));

@@ -1,0 +1,3 @@
+//! The original `ttl.rs`.
+
+include!(concat!(env!("OUT_DIR"), "/ttl.rs"));
