@@ -23,7 +23,7 @@ everything = record { ttl = None; clock = 0; all = false; label = 1024; «max_si
 abbrev pub counted : List ℕ → List Entry → List ℕ
 counted kept es = summed everything false kept es
 
--- m entries are swept, and k records from word p on closed. The record of the label `apart` goes though its bodies stay.
+-- m entries are swept, and k records from word p on closed. The record of the label `apart` goes, its bodies stay.
 pub record Removes (q : StayTest) (p k m apart : ℕ) (skip kept w w′ kept′ : List ℕ) (r : Removed) : Type 0 where
   pub few-entries : r .entries ≤ m
   pub few-records : r .records ≤ k
