@@ -207,8 +207,8 @@ module _ (l : PendingFlowsConfig) (old : Body → Bool) (i : ℕ) (b : Body) (ts
           Follows (planNew full (full && leb (l .«max_pending_flows») alive)) (step5 l old i b s)
       unfolding step5 pruned
       step5-follows s e absent =
-          let gone = pruned-away i old stay stay-differ stay-filled (sym (of-step3 s e) ∙ absent) in
-          let count : length (s .held) ≡ others = ap length (e ∙ gone) in
+          let leaving = pruned-away i old stay stay-differ stay-filled (sym (of-step3 s e) ∙ absent) in
+          let count : length (s .held) ≡ others = ap length (e ∙ leaving) in
           rw count (by-test (leb (l .«max_pending_flows») others))
         where
           by-test : (q : Bool) → Follows (planNew q (q && leb (l .«max_pending_flows») alive))

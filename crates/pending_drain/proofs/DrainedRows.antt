@@ -95,14 +95,15 @@ module _ (b : List ℕ) (ttl : Ttl) (i now : ℕ) (held handed : List TemplateRe
     own-label (r ∷ []) h = (rw (eq-eqb (r .label) (r .label) refl), tt)
     own-label (r ∷ u ∷ rs) h = absurd (omega arith)
 
-    handed-gone : closed kept handed ≡ []
-    handed-gone =
+    handed-leaving : closed kept handed ≡ []
+    handed-leaving =
         closed-none kept handed
-        (all-both (λ r. hasLabel (r .label) handed ≡ true) (λ r. r .label < 1024) (λ r. getD kept (r .label) 0 ≡ 0) gone
+        (all-both (λ r. hasLabel (r .label) handed ≡ true) (λ r. r .label < 1024)
+        (λ r. getD kept (r .label) 0 ≡ 0) empty
         handed (own-label handed single) (all-back (λ r. r .label < 1024) held handed (tied .labels-small)))
       where
-        gone : (r : TemplateRecord) → hasLabel (r .label) handed ≡ true → r .label < 1024 → getD kept (r .label) 0 ≡ 0
-        gone r has small = by-label (ℕ-discrete (r .label) label)
+        empty : (r : TemplateRecord) → hasLabel (r .label) handed ≡ true → r .label < 1024 → getD kept (r .label) 0 ≡ 0
+        empty r has small = by-label (ℕ-discrete (r .label) label)
           where
             stay : List Body
             stay = keep (bodyStays test (r .label)) (bodiesAt b (r .label) es)
@@ -161,7 +162,7 @@ module _ (b : List ℕ) (ttl : Ttl) (i now : ℕ) (held handed : List TemplateRe
 
     pub drained-records : closed kept (held ++ handed) ≡ closed kept held
     drained-records =
-        closed-append kept held handed ∙ ap (λ (rs : List TemplateRecord). closed kept held ++ rs) handed-gone
+        closed-append kept held handed ∙ ap (λ (rs : List TemplateRecord). closed kept held ++ rs) handed-leaving
         ∙ append-nil (closed kept held)
 
     -- no record that is left has the id

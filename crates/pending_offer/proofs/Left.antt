@@ -93,13 +93,13 @@ module _ (w b : List ℕ) (ok : wellFormed w (length b) ≡ true) (clock : ℕ) 
       (legal .table-legal .entries-placed))) k small
 
   module _ (i len : ℕ) (plans : Plans w b i len clock skip plan) where
-    handed-gone : All (λ u. tally (u .label) stay ≡ 0) handed
-    handed-gone =
-        all-both Legal (λ u. getD skip (u .label) 0 ≡ skipAll) (λ u. tally (u .label) stay ≡ 0) gone handed
+    handed-leaving : All (λ u. tally (u .label) stay ≡ 0) handed
+    handed-leaving =
+        all-both Legal (λ u. getD skip (u .label) 0 ≡ skipAll) (λ u. tally (u .label) stay ≡ 0) leaving handed
         handed-legal (plans .ends-chance)
       where
-        gone : (u : TemplateRecord) → Legal u → getD skip (u .label) 0 ≡ skipAll → tally (u .label) stay ≡ 0
-        gone u h all =
+        leaving : (u : TemplateRecord) → Legal u → getD skip (u .label) 0 ≡ skipAll → tally (u .label) stay ≡ 0
+        leaving u h all =
             let q = planTest (limitsOf w) clock plan in
             let bs = bodiesAt b (u .label) entries in
             let ys = keep (bodyStays q (u .label)) bs in
@@ -140,11 +140,11 @@ module _ (w b : List ℕ) (ok : wellFormed w (length b) ≡ true) (clock : ℕ) 
       handed-closed : closed kept handed ≡ []
       handed-closed =
           closed-none kept handed
-          (all-both Legal (λ u. tally (u .label) stay ≡ 0) (λ u. getD kept (u .label) 0 ≡ 0) gone handed handed-legal
-          handed-gone)
+          (all-both Legal (λ u. tally (u .label) stay ≡ 0) (λ u. getD kept (u .label) 0 ≡ 0) leaving handed handed-legal
+          handed-leaving)
         where
-          gone : (u : TemplateRecord) → Legal u → tally (u .label) stay ≡ 0 → getD kept (u .label) 0 ≡ 0
-          gone u h none = by-label (ℕ-discrete (u .label) apart)
+          leaving : (u : TemplateRecord) → Legal u → tally (u .label) stay ≡ 0 → getD kept (u .label) 0 ≡ 0
+          leaving u h none = by-label (ℕ-discrete (u .label) apart)
             where
               by-label : Dec (u .label ≡ apart) → getD kept (u .label) 0 ≡ 0
               by-label (yes e) = kept-none (u .label) e

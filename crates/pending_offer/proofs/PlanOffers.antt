@@ -21,7 +21,7 @@ use Rattle.pending_flows.specs.View.{cacheOf}
 use Rattle.table_view.proofs.Summed.{zeros}
 use Rattle.pending_offer.specs.declared.plan.Decision.{Decision}
 use Rattle.pending_offer.specs.Plan.{liveSums, labelOr, Decides, Plans}
-use Rattle.pending_offer.proofs.PlanTables.{evicted-few, held-are, handed-are, gone-are, stay-are}
+use Rattle.pending_offer.proofs.PlanTables.{evicted-few, held-are, handed-are, leaving-are, stay-are}
 use Rattle.pending_offer.proofs.Planned.{plan-made}
 
 module _ (w b : List ℕ) (ok : wellFormed w (length b) ≡ true) (l : PendingFlowsConfig) (limits : l ≡ limitsOf w)
@@ -61,23 +61,23 @@ module _ (w b : List ℕ) (ok : wellFormed w (length b) ≡ true) (l : PendingFl
       )
 
   module _ (n len : ℕ) (evicted : n ≡ evictions (l .«max_total_bytes») len (cacheOf (tableOf w) b .held)) where
-    pub gone-few : n ≤ f .templates
-    gone-few = omega (arith, evicted-few w b ok (l .«max_total_bytes») len, held-many)
+    pub leaving-few : n ≤ f .templates
+    leaving-few = omega (arith, evicted-few w b ok (l .«max_total_bytes») len, held-many)
 
-    pub gone-scaled : recordWords * n < 18446744073709551616
-    gone-scaled = omega (arith, gone-few, held-scaled)
+    pub leaving-scaled : recordWords * n < 18446744073709551616
+    leaving-scaled = omega (arith, leaving-few, held-scaled)
 
     pub stay-start : p + recordWords * n < 18446744073709551616
-    stay-start = omega (arith, gone-few, handed-start)
+    stay-start = omega (arith, leaving-few, handed-start)
 
-    pub gone-within : p + recordWords * n ≤ length w
-    gone-within = omega (arith, gone-few, handed-within)
+    pub leaving-within : p + recordWords * n ≤ length w
+    leaving-within = omega (arith, leaving-few, handed-within)
 
     pub stay-within : p + recordWords * n + recordWords * (f .templates - n) ≤ length w
-    stay-within = omega (arith, gone-few, handed-within)
+    stay-within = omega (arith, leaving-few, handed-within)
 
     few : n ≤ heldCount w
-    few = omega (arith, gone-few, held-many)
+    few = omega (arith, leaving-few, held-many)
 
     goes : n ≡ evictions (limitsOf w .«max_total_bytes») len (cacheOf (tableOf w) b .held)
     goes =
@@ -91,14 +91,14 @@ module _ (w b : List ℕ) (ok : wellFormed w (length b) ≡ true) (l : PendingFl
         (recordsFrom w (p + recordWords * n) (f .templates - n)) skip₂ skip′ d →
         label ≡ labelOr (labelOf id (recordsFrom w p (f .templates))) →
         Plans w b id len clock skip′ (record { full = d .full; label = label; all = d .all })
-    plan-done id clock label skip₀ skip₁ skip₂ skip′ d none gone handed decided labelled =
-        let gone-read : recordsFrom w p n ≡ take n (tableOf w .held) = rw start (gone-are w b ok n few) in
+    plan-done id clock label skip₀ skip₁ skip₂ skip′ d none leaving handed decided labelled =
+        let leaving-read : recordsFrom w p n ≡ take n (tableOf w .held) = rw start (leaving-are w b ok n few) in
         let stay-read : recordsFrom w (p + recordWords * n) (f .templates - n) ≡ drop n (tableOf w .held) =
         rw (start, held-many) (stay-are w b ok n few) in
         let handed-read : recordsFrom w (p + recordWords * f .templates) (f .chance) ≡ tableOf w .handed =
         rw (start, held-many, handed-many) (handed-are w b ok) in
         let held-read : recordsFrom w p (f .templates) ≡ tableOf w .held = rw (start, held-many) (held-are w b ok) in
         let skips : skip₂ ≡ skipping (skipping zeros (take n (tableOf w .held))) (tableOf w .handed) =
-        handed ∙ rw (handed-read, gone, gone-read, none) in
+        handed ∙ rw (handed-read, leaving, leaving-read, none) in
         plan-made w b id len clock ok n goes d skip′ (rw (limits, entries-many, stay-read, skips) at decided) label
         (labelled ∙ rw held-read)

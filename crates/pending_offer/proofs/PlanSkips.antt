@@ -43,33 +43,33 @@ same-either-way true = refl
 same-either-way false = refl
 
 -- of these records, and of what is handed out, all bodies are skipped, and those of one label more
-module _ (gone handed : List TemplateRecord) (t : Bool) (label : ℕ) where
+module _ (leaving handed : List TemplateRecord) (t : Bool) (label : ℕ) where
   abbrev pub skipped : List ℕ
-  skipped = skippingOne t label (skipping (skipping zeros gone) handed)
+  skipped = skippingOne t label (skipping (skipping zeros leaving) handed)
 
-  first-long : length (skipping zeros gone) ≡ 1024
-  first-long = length-skipping zeros gone ∙ length-replicate {A = ℕ} 1024 0
+  first-long : length (skipping zeros leaving) ≡ 1024
+  first-long = length-skipping zeros leaving ∙ length-replicate {A = ℕ} 1024 0
 
-  both-long : length (skipping (skipping zeros gone) handed) ≡ 1024
-  both-long = length-skipping (skipping zeros gone) handed ∙ first-long
+  both-long : length (skipping (skipping zeros leaving) handed) ≡ 1024
+  both-long = length-skipping (skipping zeros leaving) handed ∙ first-long
 
   pub skipped-long : length skipped ≡ 1024
-  skipped-long = length-one t label (skipping (skipping zeros gone) handed) ∙ both-long
+  skipped-long = length-one t label (skipping (skipping zeros leaving) handed) ∙ both-long
 
   module _ (k : ℕ) (small : k < 1024) where
     skipped-at : getD skipped k 0
-        ≡ cond (t && eqb k label) skipAll (cond (hasLabel k handed) skipAll (cond (hasLabel k gone) skipAll 0))
+        ≡ cond (t && eqb k label) skipAll (cond (hasLabel k handed) skipAll (cond (hasLabel k leaving) skipAll 0))
     skipped-at =
-        one-at t label k (skipping (skipping zeros gone) handed) (omega (arith, both-long))
+        one-at t label k (skipping (skipping zeros leaving) handed) (omega (arith, both-long))
         ∙ ap (λ (n : ℕ). cond (t && eqb k label) skipAll n)
-        (skipping-at k (skipping zeros gone) handed (omega (arith, first-long))
+        (skipping-at k (skipping zeros leaving) handed (omega (arith, first-long))
         ∙ ap (λ (n : ℕ). cond (hasLabel k handed) skipAll n)
-        (skipping-at k zeros gone (omega (arith, length-replicate {A = ℕ} 1024 0))
-        ∙ ap (λ (n : ℕ). cond (hasLabel k gone) skipAll n) (getD-replicate 1024 k 0 0 small)))
+        (skipping-at k zeros leaving (omega (arith, length-replicate {A = ℕ} 1024 0))
+        ∙ ap (λ (n : ℕ). cond (hasLabel k leaving) skipAll n) (getD-replicate 1024 k 0 0 small)))
 
     -- a held template
     pub held-skipped : All (λ u. k ≢ u .label) handed →
-        getD skipped k 0 ≡ cond (t && eqb k label) skipAll (cond (hasLabel k gone) skipAll 0)
+        getD skipped k 0 ≡ cond (t && eqb k label) skipAll (cond (hasLabel k leaving) skipAll 0)
     held-skipped apart = rw (absent-holds k handed apart) at skipped-at
 
     -- what is handed out

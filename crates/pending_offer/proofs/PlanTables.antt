@@ -119,8 +119,8 @@ module _ (w b : List ℕ) (ok : wellFormed w (length b) ≡ true) where
     both : n + (heldCount w - n) ≡ heldCount w
     both = omega arith
 
-    pub gone-are : recordsFrom w from n ≡ take n held
-    gone-are =
+    pub leaving-are : recordsFrom w from n ≡ take n held
+    leaving-are =
         sym (first-records w from n (heldCount w - n))
         ∙ ap (λ (m : ℕ). take n (recordsFrom w from m)) both
         ∙ ap (take n) held-are

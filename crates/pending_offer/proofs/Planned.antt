@@ -163,11 +163,11 @@ module _ (w b : List ℕ) (id len clock : ℕ) where
       abbrev made : OfferPlan
       made = record { full = d .full; label = label; all = d .all }
 
-      abbrev gone : List TemplateRecord
-      gone = take n held
+      abbrev leaving : List TemplateRecord
+      leaving = take n held
 
       abbrev skips : List ℕ
-      skips = skipped gone (tableOf w .handed) goes (firstLive live stay)
+      skips = skipped leaving (tableOf w .handed) goes (firstLive live stay)
 
       -- what is known of a held record's label and key
       record Told (u : TemplateRecord) : Type 0 where
@@ -182,8 +182,8 @@ module _ (w b : List ℕ) (id len clock : ℕ) where
           ≡ thinAt n planRead (u .key) (bodiesAt b (u .label) es)
       told-thins u t =
           rw (
-            held-skipped gone (tableOf w .handed) goes (firstLive live stay) (u .label) (t .small) (t .apart),
-            has-alike b es u gone (all-take (Alike u) n held (t .others)),
+            held-skipped leaving (tableOf w .handed) goes (firstLive live stay) (u .label) (t .small) (t .apart),
+            has-alike b es u leaving (all-take (Alike u) n held (t .others)),
             templates-take b es n held,
             first-alike u (all-drop (Alike u) n held (t .others)),
             first-is,
@@ -237,9 +237,9 @@ module _ (w b : List ℕ) (id len clock : ℕ) where
             label = labelled;
             thins = λ x e. all-map Told _ (λ u t. rw (decided .skips) (told-thins u t) ∙ sym (thin-is x e (u .key)
                 (bodiesAt b (u .label) es))) held held-told;
-            ends-chance = rw (decided .skips) (all-handed-skipped gone handed goes first
+            ends-chance = rw (decided .skips) (all-handed-skipped leaving handed goes first
                 (all-back (λ u. u .label < 1024) held handed (rows w b ok .labels-small)));
-            long = rw (decided .skips) (skipped-long gone handed goes first);
+            long = rw (decided .skips) (skipped-long leaving handed goes first);
           }
 
 -- nothing of what is handed out stays, whatever the test

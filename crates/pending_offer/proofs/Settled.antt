@@ -126,11 +126,11 @@ module _ (w b : List ℕ) (ok : wellFormed w (length b) ≡ true) (i : ℕ) (x :
         )
 
   -- rows that stand for what is left held, and the header over them
-  module _ {v : Verdict} (verdict : outcome .verdict ≡ v) (w₁ b′ : List ℕ) (k m gone : ℕ)
+  module _ {v : Verdict} (verdict : outcome .verdict ≡ v) (w₁ b′ : List ℕ) (k m leaving : ℕ)
       (tied : TiedRows (recordsAt l) k m w₁)
       (placed : Placed 0 (l .«max_total_bytes») (entriesFrom w₁ entriesAt m))
       (left : templatesAt b′ (entriesFrom w₁ entriesAt m) (recordsFrom w₁ (recordsAt l) k) ≡ outcome .left .held)
-      (drops : gone ≡ length (outcome .left .removed) + refusalDrops v)
+      (drops : leaving ≡ length (outcome .left .removed) + refusalDrops v)
       (bytes-long : length b′ ≡ length b) (words-long : length w₁ ≡ length w) where
     abbrev rs : List TemplateRecord
     rs = recordsFrom w₁ (recordsAt l) k
@@ -140,7 +140,7 @@ module _ (w b : List ℕ) (ok : wellFormed w (length b) ≡ true) (i : ℕ) (x :
 
     abbrev figures : HeaderFigures
     figures =
-        settledFigures (figuresAt w) (length (acceptedBodies v x)) gone (heldSum 1024 es) k m
+        settledFigures (figuresAt w) (length (acceptedBodies v x)) leaving (heldSum 1024 es) k m
 
     abbrev settledWords : List ℕ
     settledWords = headed l figures w₁
@@ -176,7 +176,8 @@ module _ (w b : List ℕ) (ok : wellFormed w (length b) ≡ true) (i : ℕ) (x :
 
     -- the header as it is written, with the limits and the figures that were read
     pub settled-does : {l′ : PendingFlowsConfig} {f : HeaderFigures} {w′ : List ℕ} → l′ ≡ l → f ≡ figuresAt w →
-        w′ ≡ overwritten w₁ (headerOf l′ (settledFigures f (length (acceptedBodies v x)) gone (heldSum 1024 es) k m)) →
+        w′ ≡ overwritten w₁
+        (headerOf l′ (settledFigures f (length (acceptedBodies v x)) leaving (heldSum 1024 es) k m)) →
         drop (l .«max_total_bytes») b′ ≡ drop (l .«max_total_bytes») b →
         drop (wordsNeeded l) w₁ ≡ drop (wordsNeeded l) w →
         Does (offered i x) cache (areasOf w b) (verdictAnswer v) (areasOf w′ b′)

@@ -133,13 +133,13 @@ fn accept(
     );
     let label = choose_label(plan.label, &kept);
     add_body(words, bytes, limits, left, label, id, body, clock);
-    let gone = held - (left.entries as u64);
+    let drops = held - (left.entries as u64);
     settle(
         words,
         limits,
         figures,
         1,
-        gone,
+        drops,
         left.records + 1,
         left.entries + 1,
     );
@@ -174,13 +174,13 @@ fn offer_body(words: &mut [u64], bytes: &mut [u8], id: u64, body: &[u8], clock: 
             none,
             &mut kept,
         );
-        let gone = held - (left.entries as u64);
+        let drops = held - (left.entries as u64);
         settle(
             words,
             limits,
             figures,
             0,
-            gone + 1,
+            drops + 1,
             left.records,
             left.entries,
         );

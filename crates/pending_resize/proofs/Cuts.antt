@@ -55,8 +55,8 @@ module _ (l : PendingFlowsConfig) (p n c m most : ℕ) (w b : List ℕ) (h : Row
   abbrev skip : List ℕ
   skip = cutSkips l held handed es zeros
 
-  abbrev gone : ℕ
-  gone = length held - l .«max_pending_flows»
+  abbrev leaving : ℕ
+  leaving = length held - l .«max_pending_flows»
 
   abbrev ts : List Template
   ts = templatesAt b es held
@@ -80,7 +80,7 @@ module _ (l : PendingFlowsConfig) (p n c m most : ℕ) (w b : List ℕ) (h : Row
   -- what is skipped of a label
   skip-at : (j : ℕ) → j < 1024 → getD skip j 0
       ≡ cond (hasLabel j handed) skipAll
-      (cond (hasLabel j (take gone held)) skipAll
+      (cond (hasLabel j (take leaving held)) skipAll
       (cond (hasLabel j held) (length (kept j) - l .«max_entries_per_template») (getD zeros j 0)))
   unfolding cutSkips
   skip-at j small =
@@ -89,25 +89,25 @@ module _ (l : PendingFlowsConfig) (p n c m most : ℕ) (w b : List ℕ) (h : Row
       let over = skippingOver cap counts zeros held in
       let long : length zeros ≡ 1024 = length-replicate {A = ℕ} 1024 0 in
       let over-long : length over ≡ 1024 = length-skipping-over cap counts zeros held ∙ long in
-      let first-long : length (skipping over (take gone held)) ≡ 1024 =
-      length-skipping over (take gone held) ∙ over-long in
+      let first-long : length (skipping over (take leaving held)) ≡ 1024 =
+      length-skipping over (take leaving held) ∙ over-long in
       let counted : getD counts j 0 ≡ length (kept j) =
       summed-count b q j small es within (omega (arith, length-entries w entriesAt m, h .entries-few)) in
-      skipping-at j (skipping over (take gone held)) handed (omega arith)
+      skipping-at j (skipping over (take leaving held)) handed (omega arith)
       ∙ rw (
-        skipping-at j over (take gone held) (omega arith),
+        skipping-at j over (take leaving held) (omega arith),
         skipping-over-at j cap counts zeros held (omega arith),
         counted,
       )
 
   -- the bodies of a held record
   one-cut : (r : TemplateRecord) → r .label < 1024 → hasLabel (r .label) handed ≡ false →
-      hasLabel (r .label) held ≡ true → hasLabel (r .label) (take gone held) ≡ hasId (r .key) (take gone ts) →
+      hasLabel (r .label) held ≡ true → hasLabel (r .label) (take leaving held) ≡ hasId (r .key) (take leaving ts) →
       drop (getD skip (r .label) 0) (kept (r .label)) ≡ cutBodies l ts (r .key) (bodiesAt b (r .label) es)
   one-cut r small apart own alike =
       let many : length ts ≡ length held = length-templates b es held in
       rw (skip-at (r .label) small, apart, own, alike, many, ← small-kept l (r .label) (bodiesAt b (r .label) es))
-      (by-test (hasId (r .key) (take gone ts)))
+      (by-test (hasId (r .key) (take leaving ts)))
     where
       cap : ℕ
       cap = l .«max_entries_per_template»
@@ -137,8 +137,8 @@ module _ (l : PendingFlowsConfig) (p n c m most : ℕ) (w b : List ℕ) (h : Row
       (all-both _ _ (λ r. (r .label < 1024) × (hasLabel (r .label) handed ≡ false)) (λ r x y. (x, y)) held small
       (labels-apart held handed labels-differ))
       (all-both _ _ (λ r. (hasLabel (r .label) held ≡ true)
-      × (hasLabel (r .label) (take gone held) ≡ hasId (r .key) (take gone ts))) (λ r x y. (x, y)) held
-      (own-labels held) (first-alike b es gone held keys-differ labels))
+      × (hasLabel (r .label) (take leaving held) ≡ hasId (r .key) (take leaving ts))) (λ r x y. (x, y)) held
+      (own-labels held) (first-alike b es leaving held keys-differ labels))
 
   long : length skip ≡ 1024
   long = cut-skips-long l held handed es skip refl
@@ -147,8 +147,8 @@ module _ (l : PendingFlowsConfig) (p n c m most : ℕ) (w b : List ℕ) (h : Row
   stay = swept q skip es
 
   -- a handed-out record does not remain
-  handed-gone : closed (countsOf stay) handed ≡ []
-  handed-gone =
+  handed-leaving : closed (countsOf stay) handed ≡ []
+  handed-leaving =
       closed-none (countsOf stay) handed
       (all-both {A = TemplateRecord} (λ r. r .label < 1024) (λ r. hasLabel (r .label) handed ≡ true)
       (λ r. getD (countsOf stay) (r .label) 0 ≡ 0)
@@ -172,7 +172,7 @@ module _ (l : PendingFlowsConfig) (p n c m most : ℕ) (w b : List ℕ) (h : Row
         let small = all-front (λ r. r .label < 1024) held handed all-labels in
         let remain : recordsFrom w′ p (r .records) ≡ closed (countsOf stay) held =
         s .records ∙ ap (closed (countsOf stay)) all-are ∙ closed-append (countsOf stay) held handed
-        ∙ rw (handed-gone, append-nil) in
+        ∙ rw (handed-leaving, append-nil) in
         rw (s .entries, remain)
         (templates-left h q skip b lent long (cutBodies l ts) held small held-cut
         ∙ sym (cut-thinned l ts (ids-differ b es held keys-differ) some))

@@ -103,28 +103,28 @@ module _ {p k m most : ℕ} {w : List ℕ} (h : Rows p k m most w) where
       abbrev skip : List ℕ
       skip = totalSkips room rs es zeros
 
-      abbrev gone : ℕ
-      gone = evictions room 0 ts
+      abbrev leaving : ℕ
+      leaving = evictions room 0 ts
 
       abbrev staying : ℕ → List Body → List Body
-      staying j bs = cond (hasId j (take gone ts)) [] bs
+      staying j bs = cond (hasId j (take leaving ts)) [] bs
 
-      skip-at : (j : ℕ) → j < 1024 → getD skip j 0 ≡ cond (hasLabel j (take gone rs)) skipAll 0
+      skip-at : (j : ℕ) → j < 1024 → getD skip j 0 ≡ cond (hasLabel j (take leaving rs)) skipAll 0
       unfolding totalSkips
       skip-at j small =
           let long : length zeros ≡ 1024 = length-replicate {A = ℕ} 1024 0 in
           let none : getD zeros j 0 ≡ 0 = getD-replicate {A = ℕ} 1024 j 0 0 small in
-          rw (over-is room) (skipping-at j zeros (take gone rs) (omega arith) ∙ rw none)
+          rw (over-is room) (skipping-at j zeros (take leaving rs) (omega arith) ∙ rw none)
 
       few : (j : ℕ) → length (bodiesAt b j es) ≤ skipAll
       few j = omega (arith, length-bodies b j es, tally-most j es, length-entries w entriesAt m, h .entries-few)
 
       one-stays : (r : TemplateRecord) → r .label < 1024 →
-          hasLabel (r .label) (take gone rs) ≡ hasId (r .key) (take gone ts) →
+          hasLabel (r .label) (take leaving rs) ≡ hasId (r .key) (take leaving ts) →
           drop (getD skip (r .label) 0) (keep (bodyStays everything (r .label)) (bodiesAt b (r .label) es))
           ≡ staying (r .key) (bodiesAt b (r .label) es)
       one-stays r small alike =
-          rw (skip-at (r .label) small, all-stay (r .label), alike) (by-test (hasId (r .key) (take gone ts)))
+          rw (skip-at (r .label) small, all-stay (r .label), alike) (by-test (hasId (r .key) (take leaving ts)))
         where
           xs : List Body
           xs = bodiesAt b (r .label) es
@@ -146,7 +146,7 @@ module _ {p k m most : ℕ} {w : List ℕ} (h : Rows p k m most w) where
             rw (s .entries, s .records)
             (templates-left h everything skip b lent long staying rs (h .tied .labels-small)
             (all-both {A = TemplateRecord} (λ r. r .label < 1024)
-            (λ r. hasLabel (r .label) (take gone rs) ≡ hasId (r .key) (take gone ts))
+            (λ r. hasLabel (r .label) (take leaving rs) ≡ hasId (r .key) (take leaving ts))
             (λ r. drop (getD skip (r .label) 0) (keep (bodyStays everything (r .label)) (bodiesAt b (r .label) es))
             ≡ staying (r .key) (bodiesAt b (r .label) es)) one-stays rs (h .tied .labels-small)
-            (first-alike b es gone rs (h .tied .keys-differ) (h .tied .labels-differ))))
+            (first-alike b es leaving rs (h .tied .keys-differ) (h .tied .labels-differ))))

@@ -44,16 +44,16 @@ records-take w p i n h =
 -- ---- cutting
 
 module _ (l : PendingFlowsConfig) (w skip₀ : List ℕ) (p n c m : ℕ) where
-  pub cut-skips : {q : StayTest} {counts skip₁ skip₂ skip₃ : List ℕ} {gone : ℕ} → q ≡ smallEnough l →
+  pub cut-skips : {q : StayTest} {counts skip₁ skip₂ skip₃ : List ℕ} {leaving : ℕ} → q ≡ smallEnough l →
       counts ≡ summed q false zeros (entriesFrom w entriesAt m) →
       skip₁ ≡ skippingOver (l .«max_entries_per_template») counts skip₀ (recordsFrom w p n) →
-      gone ≡ n - l .«max_pending_flows» → skip₂ ≡ skipping skip₁ (recordsFrom w p gone) →
+      leaving ≡ n - l .«max_pending_flows» → skip₂ ≡ skipping skip₁ (recordsFrom w p leaving) →
       skip₃ ≡ skipping skip₂ (recordsFrom w (p + recordWords * n) c) →
       skip₃ ≡ cutSkips l (recordsFrom w p n) (recordsFrom w (p + recordWords * n) c) (entriesFrom w entriesAt m) skip₀
   unfolding cutSkips
   cut-skips small counted over beyond first last =
-      let gone = records-take w p (n - l .«max_pending_flows») n (omega arith) in
-      rw (last, first, over, counted, small, length-records w p n, beyond, gone)
+      let leaving = records-take w p (n - l .«max_pending_flows») n (omega arith) in
+      rw (last, first, over, counted, small, length-records w p n, beyond, leaving)
 
 -- an array of so many is that long after the choice too
 pub cut-skips-long : (l : PendingFlowsConfig) (held handed : List TemplateRecord) (es : List Entry)
@@ -62,10 +62,10 @@ unfolding cutSkips
 cut-skips-long l held handed es skip e =
     let counts = summed (smallEnough l) false zeros es in
     let over = skippingOver (l .«max_entries_per_template») counts zeros held in
-    let gone = take (length held - l .«max_pending_flows») held in
+    let leaving = take (length held - l .«max_pending_flows») held in
     ap length e
-    ∙ length-skipping (skipping over gone) handed
-    ∙ length-skipping over gone
+    ∙ length-skipping (skipping over leaving) handed
+    ∙ length-skipping over leaving
     ∙ length-skipping-over (l .«max_entries_per_template») counts zeros held
     ∙ length-replicate {A = ℕ} 1024 0
 

@@ -31,9 +31,9 @@ module _ (q : StayTest) (bytes : Bool) where
     unfolding labelSum
     label-sum-other s d = rw (s, ne-eqb k (e .label) d) (omega arith)
 
-    pub label-sum-gone : stays q e ≡ false → labelSum q bytes k (e ∷ es) ≡ labelSum q bytes k es
+    pub label-sum-leaving : stays q e ≡ false → labelSum q bytes k (e ∷ es) ≡ labelSum q bytes k es
     unfolding labelSum
-    label-sum-gone s = rw s (omega arith)
+    label-sum-leaving s = rw s (omega arith)
 
   pub length-summed : (sums : List ℕ) (es : List Entry) → length (summed q bytes sums es) ≡ length sums
   unfolding summed
@@ -52,7 +52,7 @@ module _ (q : StayTest) (bytes : Bool) where
       let total = min (getD sums k 0 + labelSum q bytes k (e ∷ es)) sumMost in
       by-case (λ (l : List ℕ). getD (summed q bytes l es) k 0 ≡ total) (stays q e)
       (λ s. adds s (ℕ-discrete k (e .label)) (summed-from (moreAt sums (e .label) (share bytes e)) es k))
-      (λ s. omega (arith, summed-from sums es k h most, label-sum-gone k e es s))
+      (λ s. omega (arith, summed-from sums es k h most, label-sum-leaving k e es s))
     where
       next : List ℕ
       next = moreAt sums (e .label) (share bytes e)

@@ -20,7 +20,7 @@ use Rattle.table_entries.specs.Stays.{stays}
 use Rattle.table_entries.specs.Sums.{labelSum}
 use Rattle.table_entries.specs.Sweep.{swept}
 use Rattle.table_entries.proofs.Choices.{by-case}
-use Rattle.table_entries.proofs.LabelSums.{label-sum-here, label-sum-other, label-sum-gone}
+use Rattle.table_entries.proofs.LabelSums.{label-sum-here, label-sum-other, label-sum-leaving}
 use Rattle.table_entries.proofs.Lengths.{placed-lower}
 
 -- what holds of the sweep of a first entry and others: it goes, is skipped, or is kept
@@ -70,7 +70,7 @@ unfolding swept labelSum
 tally-swept q skip k [] h = omega arith
 tally-swept q skip k (e ∷ es) h =
     swept-cases (λ l. tally k l ≡ labelSum q false k (e ∷ es) - getD skip k 0) q skip e es
-    (λ s. omega (arith, tally-swept q skip k es h, label-sum-gone q false k e es s))
+    (λ s. omega (arith, tally-swept q skip k es h, label-sum-leaving q false k e es s))
     (λ s some. skipped s some (ℕ-discrete k (e .label)) (tally-swept q (lessAt skip (e .label)) k es))
     (λ s none. kept s none (ℕ-discrete k (e .label)) (tally-swept q skip k es h))
   where

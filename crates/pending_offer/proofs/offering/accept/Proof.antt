@@ -57,8 +57,8 @@ choose-label-requires c κs = search needs
 add-body-requires : tie.Need-add-body-requires
 add-body-requires c κs = accepted-room (known (c .before .before))
 
-sub-gone : tie.Need-sub-gone
-sub-gone c =
+sub-drops : tie.Need-sub-drops
+sub-drops c =
     let added : tie.After-add-body = c .before .before .before .before in
     accepted-fewer (known (chosen added)) (held (chosen added) .held-bodies .ensures)
 
@@ -100,7 +100,7 @@ accept-spec =
     remove-planned-requires
     choose-label-requires
     add-body-requires
-    sub-gone
+    sub-drops
     add-settle
     add-settle-2
     settle-requires

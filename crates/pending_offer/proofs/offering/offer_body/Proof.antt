@@ -65,8 +65,8 @@ remove-planned-requires c κs =
       ((figured plan .figures-at .ensures, plan .plan-offer .ensures .long), refl),
     )
 
-sub-gone : tie.Need-sub-gone
-sub-gone c =
+sub-drops : tie.Need-sub-drops
+sub-drops c =
     let left : tie.After-remove-planned = c .before .before in
     refused-fewer (known left) (held left .held-bodies .ensures)
 
@@ -121,7 +121,7 @@ offer-body-spec =
     plan-offer-requires
     held-bodies-requires
     remove-planned-requires
-    sub-gone
+    sub-drops
     add-settle
     settle-requires
     same-length

@@ -1,6 +1,7 @@
 use Rattle.pending_offer.proofs.PlanSteps.{entries-within, bodies-few, records-within}
-use Rattle.pending_offer.proofs.PlanOffers.{held-scaled, handed-start, handed-within, gone-few, gone-scaled}
-use Rattle.pending_offer.proofs.PlanOffers.{stay-start, gone-within, stay-within, plan-done}
+use Rattle.pending_offer.proofs.PlanOffers.{held-scaled, handed-start, handed-within, leaving-few}
+use Rattle.pending_offer.proofs.PlanOffers.{leaving-scaled}
+use Rattle.pending_offer.proofs.PlanOffers.{stay-start, leaving-within, stay-within, plan-done}
 use borrow.Author.Needs.{needs}
 use Rattle.pending_offer.proofs.plan.plan_offer.Statement.{statement}
 use Rattle.pending_offer.proofs.plan.plan_offer.Tie as tie
@@ -12,16 +13,16 @@ evictions-for-requires : tie.Need-evictions-for-requires
 evictions-for-requires c κs = search needs
 
 mul-stay : tie.Need-mul-stay
-mul-stay c = search (gone-scaled, needs)
+mul-stay c = search (leaving-scaled, needs)
 
 add-stay : tie.Need-add-stay
 add-stay c = search (stay-start, needs)
 
 sub-left : tie.Need-sub-left
-sub-left c = search (gone-few, needs)
+sub-left c = search (leaving-few, needs)
 
 skip-records-requires : tie.Need-skip-records-requires
-skip-records-requires c κs = search (gone-within, needs)
+skip-records-requires c κs = search (leaving-within, needs)
 
 mul-skip-records : tie.Need-mul-skip-records
 mul-skip-records c = search (held-scaled, needs)
