@@ -6,7 +6,7 @@ mod checks;
 mod clock;
 mod framing;
 mod numbers;
-#[cfg(feature = "live")]
+#[cfg(any(feature = "live", feature = "live-cache"))]
 mod port;
 mod random;
 mod template_store;
@@ -24,7 +24,9 @@ usage: oracle record-framing FILE
        oracle stream-cache [SEED [LISTS]]
        oracle stream-cache-defaults [SEED [CALLS]]
        oracle count-cache [SEED [LISTS]]
-       oracle compare-framing [SEED [COUNT]]   (feature live)";
+       oracle compare-framing [SEED [COUNT]]   (feature live)
+       oracle compare-cache [SEED [LISTS]]     (feature live-cache)
+       oracle damage-cache [SEED [TRIALS]]     (feature live-cache)";
 
 fn main() -> ExitCode {
     let arguments: Vec<String> = std::env::args().skip(1).collect();
@@ -63,6 +65,16 @@ fn run(arguments: &[&str]) -> Result<ExitCode, String> {
         ["compare-framing", rest @ ..] => {
             let (seed, count) = seed_and_count(rest, framing::compare::DEFAULTS)?;
             framing::compare::run(seed, count)
+        }
+        #[cfg(feature = "live-cache")]
+        ["compare-cache", rest @ ..] => {
+            let (seed, lists) = seed_and_count(rest, cache::compare::DEFAULTS)?;
+            cache::compare::run(seed, lists)
+        }
+        #[cfg(feature = "live-cache")]
+        ["damage-cache", rest @ ..] => {
+            let (seed, trials) = seed_and_count(rest, cache::damage::DEFAULTS)?;
+            cache::damage::run(seed, trials)
         }
         _ => Err(USAGE.to_string()),
     }

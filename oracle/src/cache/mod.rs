@@ -4,16 +4,26 @@
 mod account;
 mod body;
 mod branch;
-mod call;
+pub mod call;
+#[cfg(feature = "live-cache")]
+pub mod compare;
 pub mod count;
 mod counts;
+#[cfg(feature = "live-cache")]
+pub mod damage;
 mod document;
 mod exhaustive;
 mod generator;
+#[cfg(feature = "live-cache")]
+mod layout;
+#[cfg(feature = "live-cache")]
+mod lent;
 mod limits;
 mod original;
 mod parts;
 pub mod record;
+#[cfg(feature = "live-cache")]
+mod redo;
 mod rows;
 mod run;
 pub mod stream;

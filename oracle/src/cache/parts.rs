@@ -1,5 +1,6 @@
 //! The lists of calls that are streamed and counted, in parts.
 
+use super::account::Account;
 use super::call::Call;
 use super::counts::Counts;
 use super::exhaustive;
@@ -14,6 +15,20 @@ const SMALL_LIST: u64 = 60;
 
 const MIDDLE_LISTS: u64 = 20;
 const MIDDLE_LIST: u64 = 5_000;
+
+/// Takes one call after the other. A list begins with an opening that is accepted.
+pub trait Taker {
+    type Error;
+
+    fn add(&mut self, call: &Call) -> Result<(), Self::Error>;
+
+    /// The account of the cache that the next call goes on with.
+    fn account(&self) -> &Account;
+
+    fn add_all(&mut self, calls: &[Call]) -> Result<(), Self::Error> {
+        calls.iter().try_for_each(|call| self.add(call))
+    }
+}
 
 #[derive(Clone, Copy)]
 pub enum Part {
@@ -33,14 +48,14 @@ impl Part {
         let mut rows = Rows::new(out);
         let mut counts = Vec::new();
         for part in parts {
-            part.write(&mut rows)?;
+            part.make(&mut rows)?;
             counts.push((part.name(), std::mem::take(&mut rows.counts)));
         }
         rows.out.flush()?;
         Ok(counts)
     }
 
-    fn name(self) -> &'static str {
+    pub fn name(self) -> &'static str {
         match self {
             Self::Exhaustive => "exhaustive",
             Self::Small { .. } => "small",
@@ -49,21 +64,22 @@ impl Part {
         }
     }
 
-    fn write<W: Write>(self, rows: &mut Rows<W>) -> io::Result<()> {
+    /// Makes the calls of the part.
+    pub fn make<T: Taker>(self, taker: &mut T) -> Result<(), T::Error> {
         match self {
-            Self::Exhaustive => exhaustive::for_each_list(|calls| rows.add_all(calls)),
+            Self::Exhaustive => exhaustive::for_each_list(|calls| taker.add_all(calls)),
             Self::Small { seed, lists } => {
                 let mut generator = Generator::new(seed, &SMALL);
-                (0..lists).try_for_each(|_| write_list(rows, &mut generator, SMALL_LIST))
+                (0..lists).try_for_each(|_| make_list(taker, &mut generator, SMALL_LIST))
             }
             Self::Middle { seed } => {
                 let mut generator = Generator::new(seed, &MIDDLE);
-                (0..MIDDLE_LISTS).try_for_each(|_| write_calls(rows, &mut generator, MIDDLE_LIST))
+                (0..MIDDLE_LISTS).try_for_each(|_| make_calls(taker, &mut generator, MIDDLE_LIST))
             }
             Self::Defaults { seed, calls } => {
                 for profile in [&DEFAULTS_BY_COUNT, &DEFAULTS_BY_BYTES] as [&'static Profile; 2] {
-                    write_calls(rows, &mut Generator::new(seed, profile), calls)?;
-                    rows.add_all(&shrinking())?;
+                    make_calls(taker, &mut Generator::new(seed, profile), calls)?;
+                    taker.add_all(&shrinking())?;
                 }
                 Ok(())
             }
@@ -83,24 +99,24 @@ fn shrinking() -> Vec<Call> {
 }
 
 /// An opening and some calls, at least one and at most so many.
-pub fn write_list<W: Write>(
-    rows: &mut Rows<W>,
+pub fn make_list<T: Taker>(
+    taker: &mut T,
     generator: &mut Generator,
     longest: u64,
-) -> io::Result<()> {
+) -> Result<(), T::Error> {
     let calls = 1 + generator.random.below(longest);
-    write_calls(rows, generator, calls)
+    make_calls(taker, generator, calls)
 }
 
-fn write_calls<W: Write>(
-    rows: &mut Rows<W>,
+fn make_calls<T: Taker>(
+    taker: &mut T,
     generator: &mut Generator,
     calls: u64,
-) -> io::Result<()> {
-    rows.add(&generator.opening())?;
+) -> Result<(), T::Error> {
+    taker.add(&generator.opening())?;
     for _ in 0..calls {
-        let call = generator.next(rows.account());
-        rows.add(&call)?;
+        let call = generator.next(taker.account());
+        taker.add(&call)?;
     }
     Ok(())
 }

@@ -4,7 +4,7 @@ use super::counts::Table;
 use super::document;
 use super::generator::Generator;
 use super::generator::profile::SMALL;
-use super::parts::write_list;
+use super::parts::{Taker, make_list};
 use super::rows::Rows;
 use std::io;
 use std::process::ExitCode;
@@ -35,7 +35,7 @@ fn recorded_rows() -> io::Result<Rows<Vec<u8>>> {
     }
     let mut generator = Generator::new(SEED, &SMALL);
     while rows.counts.lists() < LISTS {
-        write_list(&mut rows, &mut generator, LONGEST_LIST)?;
+        make_list(&mut rows, &mut generator, LONGEST_LIST)?;
     }
     Ok(rows)
 }

@@ -4,6 +4,7 @@ use super::account::Account;
 use super::call::{Answer, Call};
 use super::counts::Counts;
 use super::original::{HeldBody, State};
+use super::parts::Taker;
 use super::run::Run;
 use crate::numbers::DONE;
 use std::io::{self, Write};
@@ -26,27 +27,6 @@ impl<W: Write> Rows<W> {
         Self { out, counts: Counts::default(), run: None }
     }
 
-    /// The account of the cache that the next call goes on with.
-    pub fn account(&self) -> &Account {
-        &self.run.as_ref().expect(OPENED).account
-    }
-
-    /// Makes the call and writes its row. The answer is the original's, but where document 01
-    /// departs from it.
-    pub fn add(&mut self, call: &Call) -> io::Result<()> {
-        let answer = self.call(call);
-        let run = self.run.as_ref().expect(OPENED);
-        self.counts.add(call, answer.number, run.account.branches());
-        let mut words = call.row_words();
-        words.extend([u64::from(answer.number), answer.value]);
-        words.extend(state_words(&run.cache.state(), run.cache.offers()));
-        self.write(&words)
-    }
-
-    pub fn add_all(&mut self, calls: &[Call]) -> io::Result<()> {
-        calls.iter().try_for_each(|call| self.add(call))
-    }
-
     /// An opening that is accepted begins a new run. One that is refused changes nothing.
     fn call(&mut self, call: &Call) -> Answer {
         if let Call::Open { .. } = call
@@ -64,6 +44,26 @@ impl<W: Write> Rows<W> {
             write!(self.out, " {word}")?;
         }
         writeln!(self.out)
+    }
+}
+
+impl<W: Write> Taker for Rows<W> {
+    type Error = io::Error;
+
+    /// Makes the call and writes its row. The answer is the original's, but where document 01
+    /// departs from it.
+    fn add(&mut self, call: &Call) -> io::Result<()> {
+        let answer = self.call(call);
+        let run = self.run.as_ref().expect(OPENED);
+        self.counts.add(call, answer.number, run.account.branches());
+        let mut words = call.row_words();
+        words.extend([u64::from(answer.number), answer.value]);
+        words.extend(state_words(&run.cache.state(), run.cache.offers()));
+        self.write(&words)
+    }
+
+    fn account(&self) -> &Account {
+        &self.run.as_ref().expect(OPENED).account
     }
 }
 

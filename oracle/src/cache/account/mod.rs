@@ -81,6 +81,26 @@ impl Account {
         }
     }
 
+    /// The account of a cache that holds these and handed out these, when so many offers were
+    /// made and nothing was dropped.
+    #[cfg(feature = "live-cache")]
+    pub fn of_areas(
+        limits: &Limits,
+        areas: Areas,
+        held: Vec<Template>,
+        chance: Template,
+        offers: u64,
+    ) -> Self {
+        let mut account = Self::open(limits, areas).expect("a cache has legal limits");
+        account.held = held;
+        account.fates.handed_out = chance.bodies.len() as u64;
+        account.cached = account.bodies() + account.fates.handed_out;
+        account.offers = offers;
+        account.last_drain = chance.clone();
+        account.chance = chance;
+        account
+    }
+
     /// Any call but an opening that is accepted.
     pub fn call(&mut self, call: &Call) -> Answer {
         self.branches.clear();

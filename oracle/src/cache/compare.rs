@@ -1,0 +1,231 @@
+//! Command `compare-cache`: the proved cache beside the original, call by call.
+
+use super::account::Account;
+use super::body::body;
+use super::call::{Answer, Call};
+use super::counts::{Counts, Table as CountTable};
+use super::layout::{self, Entry, Table};
+use super::lent::{Lent, Tail};
+use super::limits::{Areas, Limits};
+use super::original::{HeldBody, State};
+use super::parts::{Part, Taker};
+use super::run::Run;
+use crate::numbers::DONE;
+use std::process::ExitCode;
+use std::time::{Duration, Instant};
+
+/// Seed and number of small lists.
+pub const DEFAULTS: (u64, u64) = (1, 200_000);
+
+const DEFAULT_LIMITS_CALLS: u64 = 20_000;
+
+/// Above this many bytes held, their bytes are compared now and then only.
+const FEW_BYTES: u64 = 65_536;
+const NOW_AND_THEN: usize = 256;
+
+pub fn run(seed: u64, lists: u64) -> Result<ExitCode, String> {
+    let parts = [
+        Part::Exhaustive,
+        Part::Small { seed, lists },
+        Part::Middle { seed },
+        Part::Defaults { seed, calls: DEFAULT_LIMITS_CALLS },
+    ];
+    let mut counts = Vec::new();
+    let mut comparison = Comparison::default();
+    for part in parts {
+        let outcome = part.make(&mut comparison);
+        print!("{}: {} calls, ", part.name(), comparison.counts.rows());
+        match outcome {
+            Ok(()) => println!("0 differences"),
+            Err(difference) => {
+                println!("1 difference, and stopped: {difference}");
+                let calls = smallest(&comparison.calls);
+                println!("smallest list, {} calls:", calls.len());
+                for call in calls {
+                    println!("  {call:?}");
+                }
+                return Ok(ExitCode::FAILURE);
+            }
+        }
+        comparison.print_times();
+        counts.push((part.name(), std::mem::take(&mut comparison.counts)));
+    }
+    let table = CountTable(&counts);
+    print!("{table}");
+    println!("the original and the proved cache agree on all {} calls", table.rows());
+    Ok(ExitCode::SUCCESS)
+}
+
+/// The list without every call that can be left out with a difference still there.
+fn smallest(calls: &[Call]) -> Vec<Call> {
+    let differs = |calls: &[Call]| Comparison::default().add_all(calls).is_err();
+    let mut calls = calls.to_vec();
+    let mut at = calls.len();
+    while at > 1 {
+        at -= 1;
+        let mut fewer = calls.clone();
+        fewer.remove(at);
+        if differs(&fewer) {
+            calls = fewer;
+        }
+    }
+    calls
+}
+
+#[derive(Default)]
+struct Comparison {
+    run: Option<Run>,
+    lent: Lent,
+    /// The list so far.
+    calls: Vec<Call>,
+    counts: Counts,
+    /// Time within the port, and calls, by call.
+    times: [(Duration, u32); 8],
+    tail: Tail,
+    before: Lent,
+}
+
+const OPENED: &str = "the first opening is accepted";
+
+impl Taker for Comparison {
+    type Error = String;
+
+    fn add(&mut self, call: &Call) -> Result<(), String> {
+        let opened = match call {
+            Call::Open { .. } => Run::open(call),
+            _ => None,
+        };
+        if let Some(run) = opened {
+            self.run = Some(run);
+            self.calls.clear();
+            self.calls.push(*call);
+            self.open(call)?;
+        } else {
+            self.calls.push(*call);
+            self.call(call)?;
+        }
+        Ok(())
+    }
+
+    fn account(&self) -> &Account {
+        &self.run.as_ref().expect(OPENED).account
+    }
+}
+
+impl Comparison {
+    fn open(&mut self, call: &Call) -> Result<(), String> {
+        let Call::Open { limits, areas } = *call else {
+            unreachable!("only openings come here");
+        };
+        self.lent = Lent::new(areas);
+        // No byte is written.
+        let from = Areas { bytes: 0, ..need(&limits) };
+        self.compare(call, &[], from, areas, Answer::number(DONE), false)
+    }
+
+    fn call(&mut self, call: &Call) -> Result<(), String> {
+        let run = self.run.as_mut().expect(OPENED);
+        let offered = match *call {
+            Call::Offer { length, .. } => body(run.cache.offers(), length),
+            _ => Vec::new(),
+        };
+        let before = need(&run.account.limits);
+        let expected = run.call(call);
+        let after = need(&run.account.limits);
+        let from =
+            Areas { bytes: before.bytes.max(after.bytes), words: before.words.max(after.words) };
+        let areas = match *call {
+            Call::Open { areas, .. } => areas,
+            _ => self.lent.areas(),
+        };
+        let keeps = match call {
+            Call::WouldAccept { .. } | Call::ReadHandedOut { .. } => true,
+            Call::Open { .. } | Call::Resize(_) | Call::PutBack { .. } => expected.number != DONE,
+            _ => false,
+        };
+        self.compare(call, &offered, from, areas, expected, keeps)
+    }
+
+    /// Makes the call on the port. Nothing from these positions on may change, and nothing at all
+    /// where the call keeps everything.
+    fn compare(
+        &mut self,
+        call: &Call,
+        offered: &[u8],
+        from: Areas,
+        areas: Areas,
+        expected: Answer,
+        keeps: bool,
+    ) -> Result<(), String> {
+        let keeps = keeps && self.lent.areas().bytes <= FEW_BYTES;
+        if keeps {
+            self.before.copy_from(&self.lent);
+        }
+        self.lent.keep_tail(from, &mut self.tail);
+        let started = Instant::now();
+        let answer = self.lent.answer(call, offered, areas);
+        let time = &mut self.times[call.row_words()[0] as usize];
+        *time = (time.0 + started.elapsed(), time.1 + 1);
+
+        let run = self.run.as_ref().expect(OPENED);
+        self.counts.add(call, expected.number, run.account.branches());
+        let is_value_known = !matches!(call, Call::ReadHandedOut { .. });
+        if answer.number != expected.number || is_value_known && answer != expected {
+            return Err(format!("expected {expected:?}, the port answers {answer:?}"));
+        }
+        if !self.lent.has_tail(&self.tail) {
+            return Err("the port wrote past the need".to_string());
+        }
+        if keeps && !self.lent.is_same(&self.before) {
+            return Err("the port wrote in a call that changes nothing".to_string());
+        }
+        let table = layout::read(self.lent.words(), self.lent.bytes().len())
+            .map_err(|fault| format!("the port leaves a damaged cache: {fault}"))?;
+        let with_bytes = table.total <= FEW_BYTES || self.calls.len().is_multiple_of(NOW_AND_THEN);
+        let state = run.cache.state();
+        let limits = run.account.limits;
+        if !is_state(&table, self.lent.bytes(), &state, &limits, with_bytes)
+            || table.handed.as_ref().is_some_and(|handed| handed.id != run.account.chance.id)
+        {
+            return Err(format!("expected {state:?} with {limits:?}, the port holds {table:?}"));
+        }
+        Ok(())
+    }
+
+    fn print_times(&mut self) {
+        for (name, (time, calls)) in Call::NAMES.iter().zip(std::mem::take(&mut self.times)) {
+            if calls > 0 {
+                println!("  {name}: {calls} calls, {} ns each", (time / calls).as_nanos());
+            }
+        }
+    }
+}
+
+fn need(limits: &Limits) -> Areas {
+    limits.areas().expect("an open cache has legal limits")
+}
+
+/// Whether the areas hold what the original holds.
+fn is_state(
+    table: &Table,
+    bytes: &[u8],
+    state: &State<'_>,
+    limits: &Limits,
+    with_bytes: bool,
+) -> bool {
+    let same = |entries: &[Entry], bodies: &[HeldBody<'_>], with_bytes: bool| {
+        entries.len() == bodies.len()
+            && entries.iter().zip(bodies).all(|(entry, body)| {
+                (entry.length, entry.clock) == (body.bytes.len() as u64, body.clock)
+                    && (!with_bytes || entry.bytes(bytes) == body.bytes)
+            })
+    };
+    let handed = table.handed.as_ref().map_or(&[][..], |handed| &handed.bodies);
+    table.limits == *limits
+        && (table.total, table.cached, table.dropped) == (state.bytes, state.cached, state.dropped)
+        && table.held.len() == state.held.len()
+        && table.held.iter().zip(&state.held).all(|(record, template)| {
+            record.id == template.id && same(&record.bodies, &template.bodies, with_bytes)
+        })
+        && same(handed, &state.handed, true)
+}
