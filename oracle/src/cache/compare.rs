@@ -79,8 +79,8 @@ struct Comparison {
     /// The list so far.
     calls: Vec<Call>,
     counts: Counts,
-    /// Time within the port, and calls, by call.
-    times: [(Duration, u32); 8],
+    /// Time within the port, calls, and the longest time, by call.
+    times: [(Duration, u32, Duration); 8],
     tail: Tail,
     before: Lent,
 }
@@ -164,8 +164,9 @@ impl Comparison {
         self.lent.keep_tail(from, &mut self.tail);
         let started = Instant::now();
         let answer = self.lent.answer(call, offered, areas);
+        let taken = started.elapsed();
         let time = &mut self.times[call.row_words()[0] as usize];
-        *time = (time.0 + started.elapsed(), time.1 + 1);
+        *time = (time.0 + taken, time.1 + 1, time.2.max(taken));
 
         let run = self.run.as_ref().expect(OPENED);
         self.counts.add(call, expected.number, run.account.branches());
@@ -193,9 +194,10 @@ impl Comparison {
     }
 
     fn print_times(&mut self) {
-        for (name, (time, calls)) in Call::NAMES.iter().zip(std::mem::take(&mut self.times)) {
+        for (name, (time, calls, most)) in Call::NAMES.iter().zip(std::mem::take(&mut self.times)) {
             if calls > 0 {
-                println!("  {name}: {calls} calls, {} ns each", (time / calls).as_nanos());
+                let (each, most) = ((time / calls).as_nanos(), most.as_nanos());
+                println!("  {name}: {calls} calls, {each} ns each, {most} ns at most");
             }
         }
     }
