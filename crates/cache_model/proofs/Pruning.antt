@@ -25,7 +25,7 @@ of-other i j (b ∷ bs) ts e = rw e
 
 -- where all bodies pass, all stay
 module _ (p : Body → Bool) where
-  keep-all : (bs : List Body) → All (λ b. p b ≡ true) bs → keep p bs ≡ bs
+  pub keep-all : (bs : List Body) → All (λ b. p b ≡ true) bs → keep p bs ≡ bs
   keep-all [] a = refl
   keep-all (b ∷ bs) a = rw (a .0, keep-all bs (a .1))
 

@@ -30,7 +30,7 @@ use Rattle.pending_flows.proofs.Questions.{first-records, answered}
 use Rattle.pending_flows.proofs.Weights.{weigh, weighAll, weights-agree, counts-sum, len, lens-weigh}
 use Rattle.pending_flows.proofs.Weights.{count-append}
 
-all-front : {A : Type 0} (P : A → Type 0) (xs ys : List A) → All P (xs ++ ys) → All P xs
+pub all-front : {A : Type 0} (P : A → Type 0) (xs ys : List A) → All P (xs ++ ys) → All P xs
 all-front P [] ys a = tt
 all-front P (x ∷ xs) ys a = (a .0, all-front P xs ys (a .1))
 
@@ -112,7 +112,7 @@ module _ (w b : List ℕ) (ok : wellFormed w (length b) ≡ true) where
   joined : tableOf w .held ++ tableOf w .handed ≡ records w
   joined = take-append-drop (heldCount w) (records w)
 
-  counts-right : All (λ r. r .count ≡ tally (r .label) (tableOf w .entries)) (tableOf w .held ++ tableOf w .handed)
+  pub counts-right : All (λ r. r .count ≡ tally (r .label) (tableOf w .entries)) (tableOf w .held ++ tableOf w .handed)
   counts-right = all-map _ _ (λ r x. x .count-right) (tableOf w .held ++ tableOf w .handed)
       (legal .table-legal .records-legal)
 

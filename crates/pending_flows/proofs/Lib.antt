@@ -1,4 +1,5 @@
 pub mod Openings
+pub mod Caps
 pub mod Templates
 pub mod Questions
 pub mod Weights

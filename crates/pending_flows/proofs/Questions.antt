@@ -110,11 +110,11 @@ module _ (w b : List ℕ) (id len clock : ℕ) (l : PendingFlowsConfig) (limits 
     over-total h =
         rw (le-leb len (l .«max_entry_size_bytes») fits-entry, lt-leb len (l .«max_total_bytes») h) at by-limits
 
-    pub by-live-bodies : {n : ℕ} → len ≤ l .«max_total_bytes» → n ≡ liveOf id clock (cacheOf (tableOf w) b) →
-        ltb n (l .«max_entries_per_template») ≡ wouldAccept id len clock (cacheOf (tableOf w) b)
-    by-live-bodies h e =
-        ap (λ (m : ℕ). ltb m (l .«max_entries_per_template»)) e
-        ∙ (rw (le-leb len (l .«max_entry_size_bytes») fits-entry, le-leb len (l .«max_total_bytes») h) at by-limits)
+    pub by-room : {v : Bool} → len ≤ l .«max_total_bytes» →
+        v ≡ ltb (liveOf id clock (cacheOf (tableOf w) b)) (l .«max_entries_per_template») →
+        v ≡ wouldAccept id len clock (cacheOf (tableOf w) b)
+    by-room h e =
+        e ∙ (rw (le-leb len (l .«max_entry_size_bytes») fits-entry, le-leb len (l .«max_total_bytes») h) at by-limits)
 
 -- both answers of `would_accept` on a well-formed cache
 module _ (w b : List ℕ) (id len clock : ℕ) {s v : Bool} (tested : s ≡ wellFormed w (length b)) (ok : s ≡ true)

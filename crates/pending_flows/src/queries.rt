@@ -1,6 +1,7 @@
 // The queries.
 ghost use mathlib.Core.Path.{_≡_};
 ghost use mathlib.Core.Bool.{true};
+ghost use lib.Dec.{ltb};
 ghost use lib.ListN.{length};
 ghost use Rattle.table.specs.Layout.{limitsOf};
 ghost use Rattle.table.specs.Table.{tableOf};
@@ -13,6 +14,7 @@ ghost use Rattle.pending_flows.specs.Queries.{Asks, acceptAnswer, figure
 ghost use Rattle.pending_flows.specs.Live.{liveOf};
 use config::PendingFlowsConfig;
 use config::RECORD_WORDS;
+use config::Ttl;
 use table::CACHED;
 use table::CHANCE_COUNT;
 use table::DROPPED;
@@ -20,6 +22,7 @@ use table::ENTRY_COUNT;
 use table::HELD_COUNT;
 use table::LabelFound;
 use table::TOTAL;
+use table::count_of;
 use table::label_of;
 use table::limits_at;
 use table::live_count;
@@ -48,6 +51,26 @@ fn live_of(words: &[u64], bytes: &[u8], limits: PendingFlowsConfig, id: u64, clo
     live_count(words, entries, label, ttl, clock)
 }
 
+// Whether this id's live bodies are fewer than the cap. Bodies are looked at only where the template is full and some
+// may be expired.
+fn has_room(words: &[u64], bytes: &[u8], limits: PendingFlowsConfig, id: u64, clock: u64) -> bool
+    requires { ⌜ (wellFormed (now words) (length (now bytes)) ≡ true) × (limits ≡ tableOf (now words) .limits) ⌝ }
+    ensures { λ r.
+        ⌜ r ≡ ltb (liveOf id clock (cacheOf (tableOf (now (words .entry))) (now (bytes .entry))))
+        (limits .«max_entries_per_template») ⌝ }
+{
+    let held = words[HELD_COUNT] as usize;
+    let bodies = count_of(words, records_at(limits), held, id);
+    if bodies < (limits.max_entries_per_template as u64) {
+        return true;
+    }
+    let ttl = limits.ttl;
+    let Ttl::After(_) = ttl else {
+        return false;
+    };
+    live_of(words, bytes, limits, id, clock) < limits.max_entries_per_template
+}
+
 // Whether a well-formed cache would accept a body of this id and length at this clock reading.
 fn accepts(words: &[u64], bytes: &[u8], id: u64, len: usize, clock: u64) -> bool
     requires { ⌜ wellFormed (now words) (length (now bytes)) ≡ true ⌝ }
@@ -60,7 +83,7 @@ fn accepts(words: &[u64], bytes: &[u8], id: u64, len: usize, clock: u64) -> bool
     if limits.max_total_bytes < len {
         return false;
     }
-    live_of(words, bytes, limits, id, clock) < limits.max_entries_per_template
+    has_room(words, bytes, limits, id, clock)
 }
 
 // Whether an offer would be accepted: yes binds an offer of this id and length at this clock reading, no does not.

@@ -1,9 +1,10 @@
 -- The passes that look something up in records or entries: what is found is found in what is left. Assumes nothing.
 use mathlib.Core.Path.{_≡_, refl, ap, sym, _∙_}
 use mathlib.Core.Bool.{Bool, true, false, not, cond}
-use mathlib.Core.List.{List}
+use mathlib.Core.List.{List, [], _∷_}
 use Prim.Native.Nat.{ℕ, _+_, _*_, _-_, _≤_, _<_}
 use native.Mathlib.Omega.{arith}
+use lib.Dec.{eqb}
 use lib.ListN.{length}
 use borrow.Author.Tests.{eq-eqb, ne-eqb}
 use Rattle.config.specs.declared.Ttl.{Ttl}
@@ -11,40 +12,85 @@ use Rattle.config.specs.Age.{expiredAt}
 use Rattle.config.specs.Limits.{headerWords, recordWords, entryWords}
 use Rattle.table.specs.declared.Entry.{Entry}
 use Rattle.table.specs.declared.TemplateRecord.{TemplateRecord}
+use Rattle.table.specs.declared.RecordFound.{RecordFound}
+use Rattle.table.specs.declared.RecordFound.the-variants as Record
+use Rattle.table.specs.declared.LabelFound.{LabelFound}
 use Rattle.table.specs.declared.LabelFound.the-variants as Label
 use Rattle.table.specs.declared.EntryFound.the-variants as Found
 use Rattle.table.specs.Layout.{entriesAt}
 use Rattle.table.specs.Table.{entryAt, recordAt, entriesFrom, recordsFrom}
-use Rattle.table.specs.Reads.{labelOf, isLive, liveCount, nthOf}
+use Rattle.table.specs.Reads.{recordOf, labelOf, countOf, isLive, liveCount, nthOf}
 use Rattle.table.proofs.Words.{records-none, records-first, entries-none, entries-first}
 
 -- Looking for a key: the record that is found is among the `left` ones from word p on.
-pub record LabelSought (w : List ℕ) (key from records p left : ℕ) : Type 0 where
+pub record KeySought (w : List ℕ) (key from records p left : ℕ) : Type 0 where
   -- they lie within the words
   pub within : p + recordWords * left ≤ length w
   -- none of those passed has the key
-  pub same : labelOf key (recordsFrom w from records) ≡ labelOf key (recordsFrom w p left)
+  pub same : recordOf key (recordsFrom w from records) ≡ recordOf key (recordsFrom w p left)
 
 pub all-records : (w : List ℕ) (key from records : ℕ) → from + recordWords * records ≤ length w →
-    LabelSought w key from records from records
+    KeySought w key from records from records
 all-records w key from records h = record { within = h; same = refl }
 
-module _ {w : List ℕ} {key from records p left : ℕ} (inv : LabelSought w key from records p left) where
-  pub label-absent : left ≤ 0 → Label.Nothing ≡ labelOf key (recordsFrom w from records)
-  unfolding labelOf
-  label-absent h = sym (inv .same ∙ ap (labelOf key) (records-none w p left h))
+module _ {w : List ℕ} {key from records p left : ℕ} (inv : KeySought w key from records p left) where
+  pub record-absent : left ≤ 0 → Record.Nothing ≡ recordOf key (recordsFrom w from records)
+  unfolding recordOf
+  record-absent h = sym (inv .same ∙ ap (recordOf key) (records-none w p left h))
 
   module _ (r : TemplateRecord) (some : 0 < left) (is : r ≡ recordAt w p) where
-    pub label-found : key ≡ r .key → Label.At (r .label) ≡ labelOf key (recordsFrom w from records)
-    unfolding labelOf
-    label-found e = sym (inv .same ∙ rw (records-first w p left some r is, eq-eqb key (r .key) e))
+    pub record-found : key ≡ r .key → Record.At r ≡ recordOf key (recordsFrom w from records)
+    unfolding recordOf
+    record-found e = sym (inv .same ∙ rw (records-first w p left some r is, eq-eqb key (r .key) e))
 
-    pub label-further : (key ≡ r .key → ⊥) → LabelSought w key from records (p + recordWords) (left - 1)
-    unfolding labelOf
-    label-further h = record {
+    pub record-further : (key ≡ r .key → ⊥) → KeySought w key from records (p + recordWords) (left - 1)
+    unfolding recordOf
+    record-further h = record {
       within = omega (arith, inv .within);
       same = inv .same ∙ rw (records-first w p left some r is, ne-eqb key (r .key) h);
     }
+
+-- What is read off the record that was found.
+abbrev labelIn : RecordFound → LabelFound
+labelIn (Record.At r) = Label.At (r .label)
+labelIn Record.Nothing = Label.Nothing
+
+abbrev countIn : RecordFound → ℕ
+countIn (Record.At r) = r .count
+countIn Record.Nothing = 0
+
+label-in : (key : ℕ) (rs : List TemplateRecord) → labelIn (recordOf key rs) ≡ labelOf key rs
+unfolding recordOf labelOf
+label-in key [] = refl
+label-in key (r ∷ rs) = by-key (eqb key (r .key)) (label-in key rs)
+  where
+    by-key : (b : Bool) → labelIn (recordOf key rs) ≡ labelOf key rs →
+        labelIn (cond b (Record.At r) (recordOf key rs)) ≡ cond b (Label.At (r .label)) (labelOf key rs)
+    by-key true ih = refl
+    by-key false ih = ih
+
+count-in : (key : ℕ) (rs : List TemplateRecord) → countIn (recordOf key rs) ≡ countOf key rs
+unfolding recordOf countOf
+count-in key [] = refl
+count-in key (r ∷ rs) = by-key (eqb key (r .key)) (count-in key rs)
+  where
+    by-key : (b : Bool) → countIn (recordOf key rs) ≡ countOf key rs →
+        countIn (cond b (Record.At r) (recordOf key rs)) ≡ cond b (r .count) (countOf key rs)
+    by-key true ih = refl
+    by-key false ih = ih
+
+module _ (key : ℕ) (rs : List TemplateRecord) {x : RecordFound} (searched : x ≡ recordOf key rs) where
+  pub label-told : {r : TemplateRecord} → x ≡ Record.At r → Label.At (r .label) ≡ labelOf key rs
+  label-told e = sym (ap labelIn e) ∙ ap labelIn searched ∙ label-in key rs
+
+  pub no-label-told : x ≡ Record.Nothing → Label.Nothing ≡ labelOf key rs
+  no-label-told e = sym (ap labelIn e) ∙ ap labelIn searched ∙ label-in key rs
+
+  pub count-told : {r : TemplateRecord} → x ≡ Record.At r → r .count ≡ countOf key rs
+  count-told e = sym (ap countIn e) ∙ ap countIn searched ∙ count-in key rs
+
+  pub no-count-told : x ≡ Record.Nothing → 0 ≡ countOf key rs
+  no-count-told e = sym (ap countIn e) ∙ ap countIn searched ∙ count-in key rs
 
 -- An entry is live by its label, and by not being expired.
 module _ (ttl : Ttl) (clock label : ℕ) (e : Entry) where

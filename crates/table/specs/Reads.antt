@@ -7,15 +7,27 @@ use Rattle.config.specs.declared.Ttl.{Ttl}
 use Rattle.config.specs.Age.{expiredAt}
 use Rattle.table.specs.declared.Entry.{Entry}
 use Rattle.table.specs.declared.TemplateRecord.{TemplateRecord}
+use Rattle.table.specs.declared.RecordFound.{RecordFound}
+use Rattle.table.specs.declared.RecordFound.the-variants as Record
 use Rattle.table.specs.declared.LabelFound.{LabelFound}
 use Rattle.table.specs.declared.LabelFound.the-variants as Label
 use Rattle.table.specs.declared.EntryFound.{EntryFound}
 use Rattle.table.specs.declared.EntryFound.the-variants as Found
 
--- the label of the record with a key
+-- the record with a key
+unfoldable pub recordOf : ℕ → List TemplateRecord → RecordFound
+recordOf key [] = Record.Nothing
+recordOf key (r ∷ rs) = cond (eqb key (r .key)) (Record.At r) (recordOf key rs)
+
+-- its label
 unfoldable pub labelOf : ℕ → List TemplateRecord → LabelFound
 labelOf key [] = Label.Nothing
 labelOf key (r ∷ rs) = cond (eqb key (r .key)) (Label.At (r .label)) (labelOf key rs)
+
+-- how many bodies it counts; 0 where there is none
+unfoldable pub countOf : ℕ → List TemplateRecord → ℕ
+countOf key [] = 0
+countOf key (r ∷ rs) = cond (eqb key (r .key)) (r .count) (countOf key rs)
 
 -- an entry of this label that is not expired
 abbrev pub isLive : Ttl → ℕ → ℕ → Entry → Bool

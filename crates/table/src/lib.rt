@@ -14,9 +14,11 @@ pub use layout::entry_at;
 pub use layout::limits_at;
 pub use layout::record_at;
 pub use layout::records_at;
+pub use reads::count_of;
 pub use reads::label_of;
 pub use reads::live_count;
 pub use reads::nth_of;
+pub use reads::record_of;
 
 // A body: its template's label, its place and length in the byte area, and the clock reading of its offer.
 pub struct Entry {
@@ -31,6 +33,12 @@ pub struct TemplateRecord {
     pub key: u64,
     pub label: u64,
     pub count: u64,
+}
+
+// A record that is looked for.
+pub enum RecordFound {
+    At(TemplateRecord),
+    Nothing,
 }
 
 // The label of a template that is looked for.

@@ -5,10 +5,11 @@ ghost use lib.ListN.{length};
 ghost use Rattle.config.specs.Limits.{headerWords, recordWords, entryWords};
 ghost use Rattle.table.specs.Layout.{entriesAt};
 ghost use Rattle.table.specs.Table.{entriesFrom, recordsFrom};
-ghost use Rattle.table.specs.Reads.{labelOf, isLive, liveCount, nthOf};
+ghost use Rattle.table.specs.Reads.{recordOf, labelOf, countOf, isLive, liveCount, nthOf};
 use super::Entry;
 use super::EntryFound;
 use super::LabelFound;
+use super::RecordFound;
 use super::layout::entry_at;
 use super::layout::record_at;
 use config::ENTRY_WORDS;
@@ -17,22 +18,46 @@ use config::RECORD_WORDS;
 use config::Ttl;
 use config::is_expired;
 
-// The label of the record with this key.
-pub fn label_of(words: &[u64], from: usize, records: usize, key: u64) -> LabelFound
+// The record with this key.
+pub fn record_of(words: &[u64], from: usize, records: usize, key: u64) -> RecordFound
     requires { ⌜ from + recordWords * records ≤ length (now words) ⌝ }
-    ensures { λ r. ⌜ r ≡ labelOf key (recordsFrom (now (words .entry)) from records) ⌝ }
+    ensures { λ r. ⌜ r ≡ recordOf key (recordsFrom (now (words .entry)) from records) ⌝ }
 {
     let mut left = records;
     let mut p = from;
     while left > 0 {
         let template = record_at(words, p);
         if key == template.key {
-            return LabelFound::At(template.label);
+            return RecordFound::At(template);
         }
         left -= 1;
         p += RECORD_WORDS;
     }
-    LabelFound::Nothing
+    RecordFound::Nothing
+}
+
+// The label of the record with this key.
+pub fn label_of(words: &[u64], from: usize, records: usize, key: u64) -> LabelFound
+    requires { ⌜ from + recordWords * records ≤ length (now words) ⌝ }
+    ensures { λ r. ⌜ r ≡ labelOf key (recordsFrom (now (words .entry)) from records) ⌝ }
+{
+    let found = record_of(words, from, records, key);
+    match found {
+        RecordFound::At(template) => LabelFound::At(template.label),
+        RecordFound::Nothing => LabelFound::Nothing,
+    }
+}
+
+// How many bodies the record with this key counts; 0 where none has the key.
+pub fn count_of(words: &[u64], from: usize, records: usize, key: u64) -> u64
+    requires { ⌜ from + recordWords * records ≤ length (now words) ⌝ }
+    ensures { λ r. ⌜ r ≡ countOf key (recordsFrom (now (words .entry)) from records) ⌝ }
+{
+    let found = record_of(words, from, records, key);
+    match found {
+        RecordFound::At(template) => template.count,
+        RecordFound::Nothing => 0,
+    }
 }
 
 // Whether an entry has this label and is not expired.

@@ -1,4 +1,4 @@
-use Rattle.pending_flows.proofs.Questions.{header-within, over-entry-size, over-total, by-live-bodies}
+use Rattle.pending_flows.proofs.Questions.{header-within, over-entry-size, over-total, by-room}
 use borrow.Author.Needs.{needs}
 use Rattle.pending_flows.proofs.queries.accepts.Statement.{statement}
 use Rattle.pending_flows.proofs.queries.accepts.Tie as tie
@@ -12,11 +12,11 @@ returns c = search (over-entry-size, needs)
 returns-2 : tie.Need-returns-2
 returns-2 c = search (over-total, needs)
 
-live-of-requires : tie.Need-live-of-requires
-live-of-requires c κs = search needs
+has-room-requires : tie.Need-has-room-requires
+has-room-requires c κs = search needs
 
 returns-3 : tie.Need-returns-3
-returns-3 c = search (by-live-bodies, needs)
+returns-3 c = search (by-room, needs)
 
 pub accepts-spec : {M : Type 1} → statement M
-accepts-spec = tie.close (tie.spec limits-at-requires returns returns-2 live-of-requires returns-3)
+accepts-spec = tie.close (tie.spec limits-at-requires returns returns-2 has-room-requires returns-3)

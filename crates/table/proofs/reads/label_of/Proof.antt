@@ -1,54 +1,23 @@
 use borrow.Author.Needs.{needs}
-use Rattle.table.proofs.Lookups.{LabelSought, all-records, label-absent, label-found, label-further}
+use Rattle.table.proofs.Lookups.{label-told, no-label-told}
 use Rattle.table.proofs.reads.label_of.Statement.{statement}
 use Rattle.table.proofs.reads.label_of.Tie as tie
-use Rattle.table.proofs.reads.label_of.Reads as reads
-use Rattle.table.proofs.reads.label_of.Lts as lts
-use Rattle.table.proofs.layout.record_at.Reads as record-at-reads
 
-abbrev Inv-loop : tie.InvT-loop
-Inv-loop words from records key left₀ p₀ left p = LabelSought words key from records p left
+record-of-requires : tie.Need-record-of-requires
+record-of-requires c κs = search needs
 
-abbrev μ-loop : tie.MeasureT-loop
-μ-loop words from records key left₀ p₀ left p = left
+enum-known-found : tie.Need-enum-known-found
+enum-known-found c = search needs
 
-loop-holds : tie.Need-loop-holds Inv-loop μ-loop
-loop-holds c = search (all-records, needs)
+enum-told : tie.Need-enum-told
+enum-told c = search needs
 
-record-at-requires : tie.Need-record-at-requires Inv-loop μ-loop
-record-at-requires c κs = search needs
+returns : tie.Need-returns
+returns c = search (label-told, needs)
 
-returns : tie.Need-returns Inv-loop μ-loop
-returns c = search (label-found, needs)
-
-sub-left : tie.Need-sub-left Inv-loop μ-loop
-sub-left c = search needs
-
-add-p : tie.Need-add-p Inv-loop μ-loop
-add-p c = search needs
-
-loop-less : tie.Need-loop-less Inv-loop μ-loop
-loop-less c = search needs
-
-loop-again : tie.Need-loop-again Inv-loop μ-loop
-loop-again c = label-further (c .before .before .before .before .loop .inv) _
-    (c .before .before .before .loop-test .taken)
-    (c .before .before .record-at .ensures) (c .if1 .left)
-
-returns-2 : tie.Need-returns-2 Inv-loop μ-loop
-returns-2 c = search (label-absent, needs)
+returns-2 : tie.Need-returns-2
+returns-2 c = search (no-label-told, needs)
 
 pub label-of-spec : {M : Type 1} → statement M
 label-of-spec =
-    tie.close
-    (tie.spec
-    Inv-loop
-    μ-loop
-    loop-holds
-    record-at-requires
-    returns
-    sub-left
-    add-p
-    loop-less
-    loop-again
-    returns-2)
+    tie.close (tie.spec record-of-requires enum-known-found enum-told returns returns-2)
