@@ -9,7 +9,7 @@ use lib.ListN.{length, getD, take, drop, set, length-set, length-drop}
 use lib.Seq.{length-take-le, getD-take, getD-drop, take-suc, drop-cons, append-snoc, set-at}
 use lib.Seq.{paste, paste-zero, paste-suc}
 use Rattle.areas.specs.Overwrite.{putAt, moved}
-use Rattle.areas.proofs.Puts.{part-same, drop-same, length-part, length-put, put-there, take-put, drop-put}
+use Rattle.areas.proofs.Puts.{drop-more, length-part, length-put, put-there, take-put, drop-put}
 
 first-of-drop : (j : ℕ) (l : List ℕ) → getD (drop j l) 0 0 ≡ getD l j 0
 first-of-drop j l = rw (getD-drop, add-zero)
@@ -43,16 +43,9 @@ module _ (from to n : ℕ) (xs : List ℕ) (source : from + n ≤ length xs) whe
     drop-moved = rw moved-puts (rw length-source at (drop-put to (take n (drop from xs)) xs within))
 
     pub drop-moved-from : (m : ℕ) → to + n ≤ m → drop m (moved from to n xs) ≡ drop m xs
-    drop-moved-from m h = drop-same (to + n) m (moved from to n xs) xs drop-moved h
+    drop-moved-from m h = drop-more m (to + n) (moved from to n xs) xs h drop-moved
 
-    -- and so is each part there
-    pub moved-before : (p k : ℕ) → p + k ≤ to → take k (drop p (moved from to n xs)) ≡ take k (drop p xs)
-    moved-before p k h = part-same to p k (moved from to n xs) xs take-moved h
-
-    pub moved-behind : (p k : ℕ) → to + n ≤ p → take k (drop p (moved from to n xs)) ≡ take k (drop p xs)
-    moved-behind p k h = ap (take k) (drop-moved-from p h)
-
-    -- and each element
+    -- and so is each element
     element-before : (j : ℕ) → j < to → getD (moved from to n xs) j 0 ≡ getD xs j 0
     element-before j h =
         sym (getD-take to (moved from to n xs) j 0 h)

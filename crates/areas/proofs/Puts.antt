@@ -15,23 +15,23 @@ drop-take zero k l = rw zero-add
 drop-take (suc p) k [] = rw (suc-add, take-nil)
 drop-take (suc p) k (x ∷ l) = rw suc-add (drop-take p k l)
 
+-- less of the same
+pub take-less : (m n : ℕ) (l l′ : List ℕ) → m ≤ n → take n l ≡ take n l′ → take m l ≡ take m l′
+take-less m n l l′ h e = sym (take-take m n l h) ∙ ap (take m) e ∙ take-take m n l′ h
+
+pub drop-more : (m n : ℕ) (l l′ : List ℕ) → n ≤ m → drop n l ≡ drop n l′ → drop m l ≡ drop m l′
+drop-more m n l l′ h e =
+    let z : n + (m - n) ≡ m = omega arith in
+    ap (λ (j : ℕ). drop j l) (sym z) ∙ sym (drop-drop (m - n) n l) ∙ ap (drop (m - n)) e ∙ drop-drop (m - n) n l′
+    ∙ ap (λ (j : ℕ). drop j l′) z
+
 -- a part that ends at m or before, where the first m elements are the same
 pub part-same : (m p k : ℕ) (l l′ : List ℕ) → take m l ≡ take m l′ → p + k ≤ m →
     take k (drop p l) ≡ take k (drop p l′)
 part-same m p k l l′ e h =
     sym (drop-take p k l)
-    ∙ ap (drop p) (sym (take-take (p + k) m l h) ∙ ap (take (p + k)) e ∙ take-take (p + k) m l′ h)
+    ∙ ap (drop p) (take-less (p + k) m l l′ h e)
     ∙ drop-take p k l′
-
--- what stands from p on, where the elements from m on are the same
-pub drop-same : (m p : ℕ) (l l′ : List ℕ) → drop m l ≡ drop m l′ → m ≤ p → drop p l ≡ drop p l′
-drop-same m p l l′ e h =
-    let z : p ≡ m + (p - m) = omega arith in
-    ap (λ (n : ℕ). drop n l) z
-    ∙ sym (drop-drop (p - m) m l)
-    ∙ ap (drop (p - m)) e
-    ∙ drop-drop (p - m) m l′
-    ∙ ap (λ (n : ℕ). drop n l′) (sym z)
 
 pub length-part : (at n : ℕ) (xs : List ℕ) → at + n ≤ length xs → length (take n (drop at xs)) ≡ n
 length-part at n xs h = length-take-le n (drop at xs) (omega (arith, length-drop at xs))
@@ -65,14 +65,7 @@ module _ (at : ℕ) (ys xs : List ℕ) (within : at + length ys ≤ length xs) w
       (drop-at (take at xs ++ ys) (drop (at + length ys) xs) (at + length ys) length-written)
 
   pub drop-put-from : (m : ℕ) → at + length ys ≤ m → drop m (putAt at ys xs) ≡ drop m xs
-  drop-put-from m h = drop-same (at + length ys) m (putAt at ys xs) xs drop-put h
-
-  -- and so is each part there
-  pub put-before : (p k : ℕ) → p + k ≤ at → take k (drop p (putAt at ys xs)) ≡ take k (drop p xs)
-  put-before p k h = part-same at p k (putAt at ys xs) xs take-put h
-
-  pub put-behind : (p k : ℕ) → at + length ys ≤ p → take k (drop p (putAt at ys xs)) ≡ take k (drop p xs)
-  put-behind p k h = ap (take k) (drop-put-from p h)
+  drop-put-from m h = drop-more m (at + length ys) (putAt at ys xs) xs h drop-put
 
 -- a copy that fills all that it is given leaves the copied
 pub overwritten-whole : (xs ys : List ℕ) → length xs ≡ length ys → overwritten xs ys ≡ ys

@@ -10,6 +10,7 @@ use lib.Dec.{leb, ltb}
 use lib.ListN.{length, drop}
 use borrow.Author.Tests.{leb-true, ltb-true, ltb-false, lt-leb, le-ltb}
 use Rattle.config.specs.declared.PendingFlowsConfig.{PendingFlowsConfig}
+use Rattle.config.proofs.Tests.{by-case, cond-of, and-left, and-right}
 use Rattle.cache_model.specs.Bodies.{Body, Template, size, byteTotal, keep, bodiesOf, expired}
 use Rattle.cache_model.specs.Removal.{Split, untouched, evicted, evictions, pruned}
 use Rattle.cache_model.specs.Cache.{Cache, Answer, done, number}
@@ -17,7 +18,6 @@ use Rattle.cache_model.specs.Offer.{accepted, refused, Offered, accept, 
 use Rattle.cache_model.specs.Offer.{step5, step4or5, afterStep3, afterStep2, steps2to5, verdictAnswer}
 use Rattle.cache_model.specs.Offer.{refusedSize, settled, offered}
 use Rattle.cache_model.specs.Queries.{wouldAccept}
-use Rattle.cache_model.proofs.Choices.{by-case, cond-of, and-left, and-right}
 use Rattle.cache_model.proofs.Lists.{part-map, sub-drop}
 use Rattle.cache_model.proofs.Parts.{fewer-equal, Differ, differ-part, bodies-of-have}
 use Rattle.cache_model.proofs.Limits.{LegalLimits, Within, evicted-within, evictions-make-room}

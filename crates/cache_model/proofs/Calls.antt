@@ -11,6 +11,8 @@ use lib.ListN.{length, drop, length-drop}
 use borrow.Author.Tests.{eqb-true, eqb-false, leb-true, ltb-false}
 use Rattle.config.specs.declared.PendingFlowsConfig.{PendingFlowsConfig}
 use Rattle.config.specs.Limits.{configNumber}
+use Rattle.config.proofs.Tests.{by-case, and-left, and-right}
+use Rattle.config.proofs.Lists.{All, all-last}
 use Rattle.cache_model.specs.Bodies.{Body, Template, size, keep, bodiesOf, without, unlessEmpty, expired}
 use Rattle.cache_model.specs.Cache.{Cache, Outcome, chanceOf}
 use Rattle.cache_model.specs.Offer.{acceptedBodies, steps2to5, refusedSize, settled, offered}
@@ -18,8 +20,7 @@ use Rattle.cache_model.specs.Calls.{opened, drained, restored, mayPutBac
 use Rattle.cache_model.specs.Calls.{cleared}
 use Rattle.cache_model.specs.History.{Call, Offer, Drain, PutBack, Resize, Clear, WouldAccept, ReadHandedOut}
 use Rattle.cache_model.specs.History.{PlaceHandedOut, TakeFigures, does}
-use Rattle.cache_model.proofs.Choices.{by-case, and-left, and-right}
-use Rattle.cache_model.proofs.Lists.{All, none, both, SubList, all-last, all-sub, part-map, part-append}
+use Rattle.cache_model.proofs.Lists.{none, both, SubList, all-sub, part-map, part-append}
 use Rattle.cache_model.proofs.Lists.{length-part, sub-all, sub-front, sub-drop}
 use Rattle.cache_model.proofs.Weights.{sum-without}
 use Rattle.cache_model.proofs.Parts.{fewer-equal, sub-keep, sub-without, sum-sub, bodies-of-have}

@@ -1,24 +1,21 @@
 -- How many bodies a call removes, told by how many are held before and after it: conservation, each body weighing 1.
 -- Assumes nothing.
-use mathlib.Core.Path.{_≡_, refl, sym, _∙_}
-use mathlib.Core.List.{List, [], _∷_}
+use mathlib.Core.Path.{_≡_, sym, _∙_}
+use mathlib.Core.List.{List}
 use mathlib.Core.Bool.{Bool, not}
 use Prim.Native.Nat.{ℕ, _+_}
 use native.Mathlib.Omega.{arith}
 use lib.ListN.{length}
 use Rattle.config.specs.declared.PendingFlowsConfig.{PendingFlowsConfig}
-use Rattle.cache_model.specs.Bodies.{Body, Template, sumBodies, sumTemplates, keep, allBodies, bodiesOf}
+use Rattle.cache_model.specs.Bodies.{Body, Template, sumTemplates, keep, allBodies, bodiesOf}
 use Rattle.cache_model.specs.Bodies.{without}
 use Rattle.cache_model.specs.Offer.{acceptedBodies, steps2to5}
 use Rattle.cache_model.specs.Calls.{shrunk}
 use Rattle.cache_model.proofs.Weights.{sum-all, sum-keep, sum-without, offer-conserves, shrunk-conserves}
+use Rattle.cache_model.proofs.Weights.{count-bodies}
 
 abbrev one : Body → ℕ
 one b = 1
-
-count-bodies : (bs : List Body) → sumBodies one bs ≡ length bs
-count-bodies [] = refl
-count-bodies (b ∷ bs) = omega (arith, count-bodies bs)
 
 count-held : (ts : List Template) → sumTemplates one ts ≡ length (allBodies ts)
 count-held ts = sym (sum-all one ts) ∙ count-bodies (allBodies ts)

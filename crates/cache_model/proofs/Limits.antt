@@ -11,9 +11,10 @@ use borrow.Author.Tests.{ltb-false}
 use Rattle.config.specs.declared.PendingFlowsConfig.{PendingFlowsConfig}
 use Rattle.config.specs.Limits.{configNumber}
 use Rattle.config.proofs.Limits.{limits-say}
+use Rattle.config.proofs.Lists.{All, all-map, all-last}
 use Rattle.cache_model.specs.Bodies.{Body, Template, size, sumBodies, byteTotal, without}
 use Rattle.cache_model.specs.Removal.{Split, evicted, evictions, pruned}
-use Rattle.cache_model.proofs.Lists.{All, Part, SubList, all-map, all-last, all-part, all-sub, part-map}
+use Rattle.cache_model.proofs.Lists.{Part, SubList, all-part, all-sub, part-map}
 use Rattle.cache_model.proofs.Lists.{length-part, sub-drop}
 use Rattle.cache_model.proofs.Weights.{sum-templates}
 use Rattle.cache_model.proofs.Parts.{Fewer, fewer-equal, sub-without, kept-part, sum-part, Differ, differ-part}
@@ -82,7 +83,7 @@ followed-within {F = F} {G = G} {new = new} {new′ = new′} {ts = ts} f h = re
   few = h .few;
   caps = h .caps;
   small = h .small;
-  followed = all-map (λ t. F .Holds new (t .bodies)) (λ t. G .Holds new′ (t .bodies)) ts (λ t p. f (t .bodies) p)
+  followed = all-map (λ t. F .Holds new (t .bodies)) (λ t. G .Holds new′ (t .bodies)) (λ t p. f (t .bodies) p) ts
       (h .followed);
   differ = h .differ;
   filled = h .filled;

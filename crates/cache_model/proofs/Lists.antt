@@ -1,14 +1,10 @@
--- Lists in which every element has a property; and parts of a list, in which elements are missing and none has moved.
--- Assumes nothing.
+-- Parts of a list, in which elements are missing and none has moved. Assumes nothing.
 use mathlib.Core.Path.{_≡_, refl, sym, subst}
 use mathlib.Core.List.{List, [], _∷_, _++_}
 use Prim.Native.Nat.{ℕ, zero, suc, _≤_}
 use native.Mathlib.Omega.{arith}
 use lib.ListN.{length, drop}
-
-abbrev pub All : {A : Type 0} → (A → Type 0) → List A → Type 0
-All P [] = Unit {0}
-All P (x ∷ xs) = P x × All P xs
+use Rattle.config.proofs.Lists.{All}
 
 -- the first list is the second with elements missing, and a related one in place of each that stays
 pub data Part {A : Type 0} (R : A → A → Type 0) : List A → List A → Type 0 where
@@ -21,18 +17,6 @@ abbrev pub SubList : {A : Type 0} → List A → List A → Type 0
 SubList xs ys = Part _≡_ xs ys
 
 module _ {A : Type 0} where
-  pub all-of : (P : A → Type 0) (xs : List A) → ((x : A) → P x) → All P xs
-  all-of P [] f = tt
-  all-of P (x ∷ xs) f = (f x, all-of P xs f)
-
-  pub all-map : (P Q : A → Type 0) (xs : List A) → ((x : A) → P x → Q x) → All P xs → All Q xs
-  all-map P Q [] f a = tt
-  all-map P Q (x ∷ xs) f a = (f x (a .0), all-map P Q xs f (a .1))
-
-  pub all-last : (P : A → Type 0) (xs : List A) (x : A) → All P xs → P x → All P (xs ++ (x ∷ []))
-  all-last P [] x a p = (p, tt)
-  all-last P (y ∷ ys) x a p = (a .0, all-last P ys x (a .1) p)
-
   pub all-part : {R : A → A → Type 0} {xs ys : List A} (P : A → Type 0) → ((x y : A) → R x y → P y → P x)
       → Part R xs ys → All P ys → All P xs
   all-part P f none a = tt

@@ -8,6 +8,7 @@ use lib.Dec.{eqb, leb, ltb}
 use lib.ListN.{length, take, drop, getD, length-map}
 use Rattle.config.specs.declared.PendingFlowsConfig.{PendingFlowsConfig}
 use Rattle.config.specs.Limits.{configNumber}
+use Rattle.config.proofs.Tests.{cond-of}
 use Rattle.cache_model.specs.Bodies.{Body, Template, size, sumBodies, byteTotal, keep, allBodies, bodiesOf}
 use Rattle.cache_model.specs.Bodies.{without, unlessEmpty, expired}
 use Rattle.cache_model.specs.Removal.{Split, untouched, evicted, evictions, keptOf, failedOf, pruned, newestOf}
@@ -21,7 +22,6 @@ use Rattle.cache_model.specs.Calls.{cleared}
 use Rattle.cache_model.specs.Queries.{wouldAccept, noBody, readHandedOut, placeHandedOut, figures}
 use Rattle.cache_model.specs.History.{Call, Offer, Drain, PutBack, Resize, Clear, WouldAccept, ReadHandedOut}
 use Rattle.cache_model.specs.History.{PlaceHandedOut, TakeFigures, does}
-use Rattle.cache_model.proofs.Choices.{cond-of}
 
 map-drop : {A B : Type 0} (g : A → B) (n : ℕ) (xs : List A) → drop n (map g xs) ≡ map g (drop n xs)
 map-drop g zero xs = refl

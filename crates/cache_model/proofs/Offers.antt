@@ -9,12 +9,13 @@ use lib.Dec.{eqb, leb, ltb}
 use lib.ListN.{length, drop, length-append, length-drop}
 use borrow.Author.Tests.{leb-false, ltb-false}
 use Rattle.config.specs.declared.PendingFlowsConfig.{PendingFlowsConfig}
+use Rattle.config.proofs.Tests.{by-case}
+use Rattle.config.proofs.Lists.{All, all-last}
 use Rattle.cache_model.specs.Bodies.{Body, Template, size, byteTotal, bodiesOf, without}
 use Rattle.cache_model.specs.Removal.{Split, untouched, evicted, evictions, pruned}
 use Rattle.cache_model.specs.Offer.{Offered, appended, acceptedBodies, step2, step3, step4, step5, addNewest}
 use Rattle.cache_model.specs.Offer.{step4or5, afterStep3, afterStep2, steps2to5}
-use Rattle.cache_model.proofs.Choices.{by-case}
-use Rattle.cache_model.proofs.Lists.{All, Part, all-last, part-map, length-part, sub-drop}
+use Rattle.cache_model.proofs.Lists.{Part, part-map, length-part, sub-drop}
 use Rattle.cache_model.proofs.Weights.{sum-append, sum-without}
 use Rattle.cache_model.proofs.Parts.{Fewer, fewer-equal, sub-without, kept-part, sum-part, Absent, absent-part}
 use Rattle.cache_model.proofs.Parts.{bodies-of-have, absent-has-none, none-so-absent, length-without}

@@ -9,11 +9,12 @@ use native.Mathlib.Omega.{arith}
 use lib.Dec.{eqb}
 use lib.ListN.{length}
 use borrow.Author.Tests.{eqb-true, eqb-false}
+use Rattle.config.proofs.Tests.{by-case}
+use Rattle.config.proofs.Lists.{All, all-last}
 use Rattle.cache_model.specs.Bodies.{Body, Template, sumBodies, sumTemplates, keep, bodiesOf, without}
 use Rattle.cache_model.specs.Bodies.{unlessEmpty}
 use Rattle.cache_model.specs.Removal.{keptOf, newestOf}
-use Rattle.cache_model.proofs.Choices.{by-case}
-use Rattle.cache_model.proofs.Lists.{All, Part, none, both, skip, SubList, all-last, all-part, part-trans}
+use Rattle.cache_model.proofs.Lists.{Part, none, both, skip, SubList, all-part, part-trans}
 use Rattle.cache_model.proofs.Lists.{sub-all, sub-drop}
 
 -- the same template with bodies missing

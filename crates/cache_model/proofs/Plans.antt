@@ -9,11 +9,11 @@ use lib.Dec.{eqb, leb, ltb}
 use lib.ListN.{length, take, drop}
 use borrow.Author.Tests.{ltb-true, lt-ltb, le-ltb}
 use Rattle.config.specs.declared.PendingFlowsConfig.{PendingFlowsConfig}
+use Rattle.config.proofs.Tests.{by-case}
 use Rattle.cache_model.specs.Bodies.{Body, Template, size, byteTotal, keep, bodiesOf, without, unlessEmpty}
 use Rattle.cache_model.specs.Removal.{Split, untouched, evicted, evictions, keptOf, pruned}
 use Rattle.cache_model.specs.Offer.{Verdict, accepted, refused, Offered, appended, accept, refuse, step2, step3}
 use Rattle.cache_model.specs.Offer.{step4, addNewest, step5, step4or5, afterStep3, afterStep2, steps2to5}
-use Rattle.cache_model.proofs.Choices.{by-case}
 use Rattle.cache_model.proofs.Lists.{all-sub, part-map, sub-drop}
 use Rattle.cache_model.proofs.Parts.{fewer-equal, Differ, differ-part, Filled, absent-behind, absent-has-none}
 use Rattle.cache_model.proofs.Parts.{unless-empty-filled}
@@ -22,12 +22,9 @@ use Rattle.cache_model.proofs.Pruning.{stays, live, none-pruned, of-pru
 use Rattle.cache_model.proofs.Thinning.{thinned, hasId, firstId, thinned-alike, thinned-twice, bodies-thinned}
 use Rattle.cache_model.proofs.Thinning.{kept-thinned, thinned-evicted, first-thinned, without-of-thinned}
 use Rattle.cache_model.proofs.Thinning.{none-either-way}
+use Rattle.cache_model.proofs.Weights.{keep-true}
 
 -- ---- what pruning leaves
-
-keep-true : (bs : List Body) → keep (λ x. true) bs ≡ bs
-keep-true [] = refl
-keep-true (b ∷ bs) = ap (λ (xs : List Body). b ∷ xs) (keep-true bs)
 
 module _ (i : ℕ) (old : Body → Bool) where
   -- where the id has no live bodies, step 3 leaves the other ids' templates

@@ -7,9 +7,10 @@ use Prim.Native.Nat.{ℕ, zero, suc, _≤_}
 use native.Mathlib.Omega.{arith}
 use lib.Dec.{eqb}
 use lib.ListN.{length, drop}
+use Rattle.config.proofs.Lists.{All, all-of}
 use Rattle.cache_model.specs.Bodies.{Body, Template, keep, bodiesOf, unlessEmpty}
 use Rattle.cache_model.specs.Removal.{keptOf, failedOf}
-use Rattle.cache_model.proofs.Lists.{All, all-of, part-map, length-part, sub-drop}
+use Rattle.cache_model.proofs.Lists.{part-map, length-part, sub-drop}
 use Rattle.cache_model.proofs.Parts.{fewer-equal, sub-keep, kept-part, Differ, absent-part, absent-behind}
 use Rattle.cache_model.proofs.Parts.{absent-has-none, Filled, unless-empty-filled}
 

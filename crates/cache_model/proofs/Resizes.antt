@@ -8,11 +8,12 @@ use lib.Dec.{leb}
 use lib.ListN.{length, drop, length-drop}
 use borrow.Author.Tests.{leb-true}
 use Rattle.config.specs.declared.PendingFlowsConfig.{PendingFlowsConfig}
+use Rattle.config.proofs.Tests.{by-case}
+use Rattle.config.proofs.Lists.{All}
 use Rattle.cache_model.specs.Bodies.{Body, Template, size, keep}
 use Rattle.cache_model.specs.Removal.{evicted, evictions, keptOf, pruned, newestOf, capped}
 use Rattle.cache_model.specs.Calls.{shrunk}
-use Rattle.cache_model.proofs.Choices.{by-case}
-use Rattle.cache_model.proofs.Lists.{All, Part, all-sub, part-map, part-trans, length-part, sub-drop}
+use Rattle.cache_model.proofs.Lists.{Part, all-sub, part-map, part-trans, length-part, sub-drop}
 use Rattle.cache_model.proofs.Parts.{Fewer, fewer-equal, fewer-trans, kept-part, newest-part, differ-part}
 use Rattle.cache_model.proofs.Parts.{Filled, kept-filled, kept-have}
 use Rattle.cache_model.proofs.Limits.{LegalLimits, Within, each-inherits, small-inherited, evictions-make-room}

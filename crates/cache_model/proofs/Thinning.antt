@@ -2,18 +2,19 @@
 -- Thinnings in a row are one thinning. Assumes nothing.
 use mathlib.Core.Path.{_≡_, refl, sym, _∙_}
 use mathlib.Core.Logic.{_≢_}
-use mathlib.Core.List.{List, [], _∷_, _++_}
+use mathlib.Core.List.{List, [], _∷_}
 use mathlib.Core.Bool.{Bool, true, false, _||_, cond}
 use Prim.Native.Nat.{ℕ, zero, suc, _-_, _<_}
 use native.Mathlib.Omega.{arith}
 use lib.Dec.{eqb}
 use lib.ListN.{length, take, drop, length-drop}
 use borrow.Author.Tests.{eqb-true, eq-eqb, ne-eqb}
+use Rattle.config.proofs.Lists.{All, all-of, all-map}
 use Rattle.cache_model.specs.Bodies.{Body, Template, keep, bodiesOf, without, unlessEmpty}
 use Rattle.cache_model.specs.Removal.{keptOf, newestOf}
-use Rattle.cache_model.proofs.Lists.{All, Part, none, both, skip, SubList, all-of, all-map, all-sub}
+use Rattle.cache_model.proofs.Lists.{all-sub}
 use Rattle.cache_model.proofs.Lists.{sub-drop}
-use Rattle.cache_model.proofs.Parts.{Fewer, Absent, Differ, Filled, absent-behind, absent-has-none}
+use Rattle.cache_model.proofs.Parts.{Absent, Differ, Filled, absent-behind, absent-has-none}
 use Rattle.cache_model.proofs.Parts.{unless-empty-filled}
 
 -- each template's bodies become f of its id and them; emptied templates go
@@ -69,21 +70,6 @@ module _ (f : ℕ → List Body → List Body) where
   thinned-all (t ∷ ts) h a =
       rw (a .0, thinned-all ts (h .1) (a .1)) (unless-empty-filled (t .id) (t .bodies) ts (h .0))
 
-  pub thinned-none : (ts : List Template) → All (λ t. f (t .id) (t .bodies) ≡ []) ts → thinned f ts ≡ []
-  unfolding thinned
-  thinned-none [] a = refl
-  thinned-none (t ∷ ts) a = rw (a .0) (thinned-none ts (a .1))
-
-  pub thinned-append : (ts us : List Template) → thinned f (ts ++ us) ≡ thinned f ts ++ thinned f us
-  unfolding thinned
-  thinned-append [] us = refl
-  thinned-append (t ∷ ts) us = rw (thinned-append ts us) (in-front (f (t .id) (t .bodies)))
-    where
-      in-front : (bs : List Body) → unlessEmpty (t .id) bs (thinned f ts ++ thinned f us)
-          ≡ unlessEmpty (t .id) bs (thinned f ts) ++ thinned f us
-      in-front [] = refl
-      in-front (b ∷ bs) = refl
-
   pub thinned-filled : (ts : List Template) → Filled (thinned f ts)
   unfolding thinned
   thinned-filled [] = tt
@@ -92,17 +78,6 @@ module _ (f : ℕ → List Body → List Body) where
       in-front : (bs : List Body) → Filled (thinned f ts) → Filled (unlessEmpty (t .id) bs (thinned f ts))
       in-front [] h = h
       in-front (b ∷ bs) h = (omega arith, h)
-
-  pub thinned-part : ((j : ℕ) (bs : List Body) → SubList (f j bs) bs) → (ts : List Template)
-      → Part Fewer (thinned f ts) ts
-  unfolding thinned
-  thinned-part s [] = none
-  thinned-part s (t ∷ ts) = in-front (f (t .id) (t .bodies)) (s (t .id) (t .bodies)) (thinned-part s ts)
-    where
-      in-front : (bs : List Body) → SubList bs (t .bodies) → Part Fewer (thinned f ts) ts
-          → Part Fewer (unlessEmpty (t .id) bs (thinned f ts)) (t ∷ ts)
-      in-front [] s r = skip r
-      in-front (b ∷ bs) s r = both (refl, s) r
 
   pub thinned-absent : (i : ℕ) (ts : List Template) → Absent i ts → Absent i (thinned f ts)
   unfolding thinned
@@ -161,8 +136,8 @@ absent-false : (i : ℕ) (f : Bool → ℕ → List Body → List Body) (ts : Li
     → thinned (λ j bs. f (eqb j i) j bs) ts ≡ thinned (f false) ts
 absent-false i f ts a =
     thinned-same (λ j bs. f (eqb j i) j bs) (f false) ts
-    (all-map (λ t. i ≢ t .id) (λ t. f (eqb (t .id) i) (t .id) (t .bodies) ≡ f false (t .id) (t .bodies)) ts
-    (λ t n. rw (ne-eqb (t .id) i (λ e. n (sym e)))) a)
+    (all-map (λ (t : Template). i ≢ t .id) (λ t. f (eqb (t .id) i) (t .id) (t .bodies) ≡ f false (t .id) (t .bodies))
+    (λ t n. rw (ne-eqb (t .id) i (λ e. n (sym e)))) ts a)
 
 -- a thinning of what evictions leave
 pub thinned-evicted : (f : ℕ → List Body → List Body) (n : ℕ) (ts : List Template) → Differ ts
@@ -194,8 +169,8 @@ without-thinned i (t ∷ ts) d h = by-test (eqb i (t .id)) refl (without-thinned
     by-test : (q : Bool) → eqb i (t .id) ≡ q → without i ts ≡ thinned other ts
         → cond q ts (t ∷ without i ts) ≡ unlessEmpty (t .id) (cond q [] (t .bodies)) (thinned other ts)
     by-test true e r =
-        sym (thinned-all other ts (h .1) (all-map (λ u. i ≢ u .id) (λ u. other (u .id) (u .bodies) ≡ u .bodies) ts
-        (λ u n. rw (ne-eqb i (u .id) n)) (absent-behind i t ts e d)))
+        sym (thinned-all other ts (h .1) (all-map (λ (u : Template). i ≢ u .id) (λ u. other (u .id) (u .bodies) ≡ u .bodies)
+        (λ u n. rw (ne-eqb i (u .id) n)) ts (absent-behind i t ts e d)))
     by-test false e r = rw r (sym (unless-empty-filled (t .id) (t .bodies) (thinned other ts) (h .0)))
 
 -- what a thinning leaves of the other ids

@@ -1,6 +1,6 @@
 -- Conservation: whatever weight a body has, removals, an offer and a resize neither lose nor invent any.
 -- Assumes nothing.
-use mathlib.Core.Path.{_≡_, refl}
+use mathlib.Core.Path.{_≡_, refl, ap}
 use mathlib.Core.List.{List, [], _∷_, _++_}
 use mathlib.Core.Bool.{Bool, true, false, not, _&&_, cond}
 use Prim.Native.Nat.{ℕ, zero, suc, _+_, _-_}
@@ -8,6 +8,7 @@ use native.Mathlib.Omega.{arith}
 use lib.Dec.{eqb, leb, ltb}
 use lib.ListN.{length, take, drop}
 use Rattle.config.specs.declared.PendingFlowsConfig.{PendingFlowsConfig}
+use Rattle.config.proofs.Tests.{by-case}
 use Rattle.cache_model.specs.Bodies.{Body, Template, size, sumBodies, sumTemplates, keep, allBodies, bodiesOf}
 use Rattle.cache_model.specs.Bodies.{without, unlessEmpty}
 use Rattle.cache_model.specs.Removal.{Split, untouched, evicted, evictions, keptOf, failedOf, pruned, newestOf}
@@ -15,7 +16,14 @@ use Rattle.cache_model.specs.Removal.{oldestOf, capped}
 use Rattle.cache_model.specs.Offer.{Offered, appended, acceptedBodies, step2, step3, step4, step5, addNewest}
 use Rattle.cache_model.specs.Offer.{step4or5, afterStep3, afterStep2, steps2to5}
 use Rattle.cache_model.specs.Calls.{shrunk}
-use Rattle.cache_model.proofs.Choices.{by-case}
+
+pub count-bodies : (bs : List Body) → sumBodies (λ _. 1) bs ≡ length bs
+count-bodies [] = refl
+count-bodies (b ∷ bs) = omega (arith, count-bodies bs)
+
+pub keep-true : (bs : List Body) → keep (λ _. true) bs ≡ bs
+keep-true [] = refl
+keep-true (b ∷ bs) = ap (λ (xs : List Body). b ∷ xs) (keep-true bs)
 
 module _ (w : Body → ℕ) where
   pub sum-append : (xs ys : List Body) → sumBodies w (xs ++ ys) ≡ sumBodies w xs + sumBodies w ys

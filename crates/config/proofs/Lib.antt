@@ -1,2 +1,4 @@
+pub mod Tests
+pub mod Lists
 pub mod Refusals
 pub mod Limits

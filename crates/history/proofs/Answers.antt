@@ -12,6 +12,7 @@ use lib.ListN.{length}
 use borrow.Author.Tests.{eqb-true, ltb-false}
 use Rattle.config.specs.declared.PendingFlowsConfig.{PendingFlowsConfig}
 use Rattle.config.specs.Limits.{limitsNumber, areasHold, configNumber}
+use Rattle.config.proofs.Tests.{by-case}
 use Rattle.cache_model.specs.Bodies.{Body, size, keep, allBodies, bodiesOf, expired}
 use Rattle.cache_model.specs.Removal.{Split}
 use Rattle.cache_model.specs.Cache.{Cache, Answer, done, number, count, says, shows, spans, tells, Outcome}
@@ -21,7 +22,6 @@ use Rattle.cache_model.specs.Calls.{drained, mayPutBack, putBack, shrunk, resiz
 use Rattle.cache_model.specs.Queries.{wouldAccept, readHandedOut, placeHandedOut, handedOut, figures}
 use Rattle.cache_model.specs.History.{Call, Offer, Drain, PutBack, Resize, Clear, WouldAccept, ReadHandedOut}
 use Rattle.cache_model.specs.History.{PlaceHandedOut, TakeFigures, does}
-use Rattle.cache_model.proofs.Choices.{by-case}
 use Rattle.cache_model.proofs.Calls.{Limited, limited, held-within}
 use Rattle.cache_model.proofs.Acceptance.{verdict-in-full, unexpired}
 use Rattle.history.specs.Account.{openingNumber, Event, call, refusedOpening, offeredBy, body, Account, Change}

@@ -7,11 +7,11 @@ use mathlib.Core.Bool.{cond}
 use Prim.Native.Nat.{ℕ, zero, suc, _+_}
 use native.Mathlib.Omega.{arith}
 use lib.Dec.{eqb}
-use lib.ListN.{length}
+use Rattle.config.proofs.Lists.{All}
 use Rattle.cache_model.specs.Bodies.{Body, Template, sumBodies, unlessEmpty}
 use Rattle.cache_model.specs.Cache.{Answer}
-use Rattle.cache_model.proofs.Lists.{All, SubList, none, both, skip, all-sub, part-append, sub-all, sub-none}
-use Rattle.cache_model.proofs.Weights.{sum-append, sum-all}
+use Rattle.cache_model.proofs.Lists.{SubList, none, both, skip, all-sub, part-append, sub-all, sub-none}
+use Rattle.cache_model.proofs.Weights.{sum-append, sum-all, count-bodies}
 use Rattle.cache_model.proofs.Calls.{held-within}
 use Rattle.history.specs.Account.{Event, Account, refusalsIn, heldBodies, handedOutBodies, droppedBodies}
 use Rattle.history.specs.Claim.{offersAnswered, ordinals, isDone, isRefusal, timesIn, Times, OneFate, Held}
@@ -29,10 +29,6 @@ one-fate n a (suc x) y z v t e = Held (omega arith)
 one-fate n a zero (suc y) z v t e = HandedOut (omega arith)
 one-fate n a zero zero (suc z) v t e = Dropped (omega arith)
 one-fate n a zero zero zero v t e = Cleared (omega arith)
-
-count-bodies : (bs : List Body) → sumBodies (λ _. 1) bs ≡ length bs
-count-bodies [] = refl
-count-bodies (b ∷ bs) = omega (arith, count-bodies bs)
 
 -- ---- in order
 

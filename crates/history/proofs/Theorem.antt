@@ -5,27 +5,27 @@ use mathlib.Core.Logic.{⊎-elim}
 use mathlib.Core.List.{List, [], _∷_, map, List·Memᴰ as Member, List·Memᴰ·not-nil, List·Memᴰ·cases-cons}
 use mathlib.Core.List.{List·Memᴰ·append-cases}
 use mathlib.Core.Bool.{true}
-use Prim.Native.Nat.{ℕ, _+_, _<_}
+use Prim.Native.Nat.{ℕ, _+_}
 use native.Mathlib.Omega.{arith}
 use lib.Dec.{eqb, ltb}
 use lib.ListN.{length}
 use borrow.Author.Tests.{eqb-true}
 use Rattle.config.specs.Limits.{configNumber}
+use Rattle.config.proofs.Tests.{by-case}
 use Rattle.cache_model.specs.Bodies.{Body}
-use Rattle.cache_model.specs.Cache.{Cache, Answer, done, number, says, Outcome, counterMost}
+use Rattle.cache_model.specs.Cache.{Cache, Answer, done, number, says, Outcome}
 use Rattle.cache_model.specs.Offer.{refusedSize, settled, offered}
 use Rattle.cache_model.specs.Calls.{drained, restored, mayPutBack, putBack, resizedTo, resized, cleared}
 use Rattle.cache_model.specs.Queries.{wouldAccept}
 use Rattle.cache_model.specs.History.{Call, Offer, Drain, PutBack, Resize, Clear, WouldAccept, ReadHandedOut}
 use Rattle.cache_model.specs.History.{PlaceHandedOut, TakeFigures, does}
-use Rattle.cache_model.proofs.Choices.{by-case}
 use Rattle.cache_model.proofs.Limits.{config-legal}
 use Rattle.cache_model.proofs.Calls.{limited, held-within}
 use Rattle.cache_model.proofs.Numbers.{total-renumbered, does-renumbered}
 use Rattle.cache_model.proofs.Acceptance.{yes-binds}
 use Rattle.history.specs.Account.{Opening, openingNumber, Event, call, refusedOpening, History, Account, begun}
 use Rattle.history.specs.Account.{next, answerTo, accountAfter, answersTo, accountOf, eventAnswers, answersOf}
-use Rattle.history.specs.Claim.{unnumbered, offersIn, OwnLengths, Promised, EventPromised, Linked, Run}
+use Rattle.history.specs.Claim.{unnumbered, OwnLengths, Promised, EventPromised, Linked, Run}
 use Rattle.history.specs.Claim.{Accounted, Fates, EveryRunAccounted}
 use Rattle.history.proofs.Balance.{Balanced, begun-balanced, all-balanced}
 use Rattle.history.proofs.Order.{InOrder, begun-in-order, all-in-order}

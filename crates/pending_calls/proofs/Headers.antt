@@ -1,5 +1,5 @@
 -- The words once a header is written. Assumes nothing.
-use mathlib.Core.Path.{_≡_, refl, ap, _∙_}
+use mathlib.Core.Path.{_≡_, ap, _∙_}
 use mathlib.Core.List.{List, _++_}
 use Prim.Native.Nat.{ℕ, _+_, _-_, _≤_}
 use native.Mathlib.Omega.{arith}
@@ -8,17 +8,14 @@ use lib.Seq.{drop-drop, drop-append-add}
 use Rattle.config.specs.declared.Ttl.{Ttl}
 use Rattle.config.specs.declared.Ttl.the-variants.{None, After}
 use Rattle.config.specs.declared.PendingFlowsConfig.{PendingFlowsConfig}
-use Rattle.table.specs.Layout.{ttlSet, ttlOf, limitsOf}
+use Rattle.table.specs.Layout.{ttlSet, limitsOf}
 use Rattle.cache_model.specs.Told.{limitsOf as limitsFrom}
 use Rattle.pending_flows.specs.declared.header.HeaderFigures.{HeaderFigures}
-use Rattle.pending_flows.specs.Header.{ttlFlag, ttlWord, headerOf}
+use Rattle.pending_flows.specs.Header.{ttlFlag, headerOf}
+use Rattle.pending_flows.proofs.Openings.{ttl-back}
 
 abbrev pub headed : PendingFlowsConfig → HeaderFigures → List ℕ → List ℕ
 headed l f w = headerOf l f ++ drop 12 w
-
-ttl-back : (t : Ttl) → ttlOf (ttlFlag t) (ttlWord t) ≡ t
-ttl-back None = refl
-ttl-back (After n) = refl
 
 module _ (l : PendingFlowsConfig) (f : HeaderFigures) (w : List ℕ) where
   pub headed-flag : ttlSet (headed l f w) ≤ 1

@@ -1,6 +1,5 @@
 pub mod Performed
 pub mod Headers
 pub mod Clearings
-pub mod IndexFrames
 pub mod Removals
 pub mod Removed

@@ -1,17 +1,14 @@
 -- Calls behind the test of 28: damaged areas, or a cache that the definition changes. Assumes nothing.
 use mathlib.Core.Path.{_≡_, refl, sym, ap, _∙_}
-use mathlib.Core.Bool.{Bool, true, false, cond}
+use mathlib.Core.Bool.{Bool, true, false}
 use mathlib.Core.List.{List}
 use mathlib.Core.Option.{Option, none, some}
-use Prim.Native.Nat.{ℕ, _≤_}
+use Prim.Native.Nat.{ℕ}
 use lib.ListN.{length}
 use native.Mathlib.Omega.{arith}
-use Rattle.config.specs.Limits.{headerWords}
 use Rattle.table.specs.Table.{tableOf}
 use Rattle.table.specs.WellFormed.{wellFormed}
-use Rattle.table.proofs.Facts.{words-say}
 use Rattle.cache_model.specs.Cache.{Cache, Answer, number, Outcome}
-use Rattle.cache_model.specs.Reply.{called}
 use Rattle.pending_flows.specs.View.{Areas, areasOf, cacheOf, view}
 use Rattle.pending_calls.specs.Promises.{Untouched, Performs, Does}
 
@@ -43,13 +40,6 @@ module _ (w b : List ℕ) {v : Bool} (tested : v ≡ wellFormed w (length b)) wh
       some-none e =
           let z : _≡_ {A = ℕ} 1 0 = ap isSome e in
           omega arith
-
--- what was tested is known
-pub well-formed : (w : List ℕ) (n : ℕ) {v : Bool} → v ≡ wellFormed w n → v ≡ true → wellFormed w n ≡ true
-well-formed w n e h = sym e ∙ h
-
-pub header-within : (w : List ℕ) (n : ℕ) → wellFormed w n ≡ true → headerWords ≤ length w
-header-within w n ok = words-say w n ok .header-long
 
 pub untouched-all : (m n : ℕ) (a : Areas) → Untouched m n a a
 untouched-all m n a = record { words-behind = refl; bytes-behind = refl; words-long = refl; bytes-long = refl }

@@ -1,22 +1,22 @@
 -- A removal from its steps: the sweep, the counts by label, the closing. Assumes nothing.
-use mathlib.Core.Path.{_≡_, refl, sym, ap, _∙_}
+use mathlib.Core.Path.{_≡_, ap, _∙_}
 use mathlib.Core.Bool.{false}
 use mathlib.Core.List.{List}
 use Prim.Native.Nat.{ℕ, _+_, _*_, _≤_}
 use native.Mathlib.Omega.{arith}
-use lib.ListN.{length, getD, set, take, drop}
+use lib.ListN.{length, getD, set}
 use Rattle.config.specs.Limits.{recordWords, entryWords}
+use Rattle.areas.proofs.Puts.{take-less, drop-more}
 use Rattle.table.specs.Layout.{entriesAt}
 use Rattle.table.specs.Table.{entriesFrom, recordsFrom, indexFrom}
 use Rattle.table_entries.specs.declared.StayTest.{StayTest}
 use Rattle.table_entries.specs.Sums.{summed}
 use Rattle.table_entries.specs.Sweep.{swept, Sweeps}
 use Rattle.table_entries.proofs.Frames.{entries-below}
-use Rattle.table_records.specs.Close.{closed, positions, remapped, Closes}
-use Rattle.table_records.proofs.Frames.{records-above, take-less, drop-more}
+use Rattle.table_records.specs.Close.{closed, Closes}
+use Rattle.table_records.proofs.Frames.{records-above, index-above}
 use Rattle.pending_calls.specs.declared.removal.Removed.{Removed}
 use Rattle.pending_calls.specs.Removal.{everything, Removes}
-use Rattle.pending_calls.proofs.IndexFrames.{index-above}
 
 module _ (q : StayTest) (p k m apart : ℕ) (skip kept w w₁ w′ kept₁ kept′ : List ℕ) (r : Removed) where
   pub removal-done : (entriesAt + entryWords * m ≤ p) × (p + recordWords * k ≤ length w) → {e : StayTest} →

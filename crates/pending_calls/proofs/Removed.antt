@@ -4,7 +4,7 @@ use mathlib.Core.Path.{_≡_, sym, ap, subst, _∙_}
 use mathlib.Core.List.{List}
 use Prim.Native.Nat.{ℕ, _+_, _*_, _≤_, _<_}
 use native.Mathlib.Omega.{arith}
-use lib.ListN.{length, replicate, take-append-drop}
+use lib.ListN.{length, take-append-drop}
 use Rattle.table.specs.declared.Entry.{Entry}
 use Rattle.table.specs.declared.TemplateRecord.{TemplateRecord}
 use Rattle.config.specs.Limits.{entryWords, recordWords}
@@ -16,16 +16,14 @@ use Rattle.table_entries.specs.declared.StayTest.{StayTest}
 use Rattle.table_entries.specs.Sums.{sumMost}
 use Rattle.table_entries.specs.Sweep.{swept}
 use Rattle.table_entries.proofs.Swept.{length-swept, all-swept, placed-swept}
+use Rattle.table_entries.proofs.LabelSums.{zeros}
 use Rattle.table_records.specs.Close.{closed, positions, remapped}
 use Rattle.table_records.proofs.ClosedIndex.{closed-index-long, index-after-closing}
 use Rattle.table_view.proofs.Tied.{Tied, TiedApart, words-tied}
-use Rattle.table_view.proofs.Removed.{lenMost, labelCountsBut, label-counts, placed-short, removed-apart}
+use Rattle.table_view.proofs.Removed.{labelCountsBut, label-counts, placed-short, removed-apart}
+use Rattle.table_view.proofs.Summed.{lenMost}
 use Rattle.pending_calls.specs.declared.removal.Removed.{Removed}
 use Rattle.pending_calls.specs.Removal.{Removes}
-
--- no sums yet
-abbrev pub zeros : List ℕ
-zeros = replicate 1024 0
 
 -- k records from word p on, and m entries
 abbrev pub TiedRows : ℕ → ℕ → ℕ → List ℕ → Type 0
@@ -45,10 +43,6 @@ module _ {q : StayTest} {p k m a : ℕ} {skip w w′ kept′ : List ℕ} {r : Re
 
   abbrev is : List ℕ
   is = indexFrom w p k
-
-  -- what each label has left, but the bodies set apart
-  pub counts-left : kept′ ≡ labelCountsBut a (entriesFrom w′ entriesAt (r .entries))
-  counts-left = done .counts ∙ rw (done .entries)
 
   pub placed-left : Placed 0 most (entriesFrom w′ entriesAt (r .entries))
   placed-left = rw (done .entries) (placed-swept q skip 0 most es placed)

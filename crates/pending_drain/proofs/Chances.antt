@@ -10,19 +10,19 @@ use lib.ListN.{length}
 use borrow.Author.Tests.{ne-eqb, lt-leb}
 use Rattle.config.specs.declared.PendingFlowsConfig.{PendingFlowsConfig}
 use Rattle.config.specs.Limits.{recordWords}
+use Rattle.config.proofs.Lists.{All, all-back}
 use Rattle.table.specs.declared.TemplateRecord.{TemplateRecord}
 use Rattle.table.specs.Layout.{limitsOf, heldCount, chanceCount, recordsAt}
 use Rattle.table.specs.Table.{tableOf, recordAt, recordsFrom, tally}
 use Rattle.table.specs.WellFormed.{wellFormed}
-use Rattle.table.proofs.Facts.{All, words-say}
+use Rattle.table.proofs.Facts.{words-say}
+use Rattle.table.proofs.Words.{records-behind}
 use Rattle.cache_model.specs.Calls.{mayPutBack}
 use Rattle.pending_flows.specs.View.{bodiesAt, cacheOf}
-use Rattle.pending_flows.proofs.Figures.{rest-records}
 use Rattle.pending_flows.proofs.Templates.{length-bodies}
 use Rattle.table_view.proofs.Tied.{words-tied}
 use Rattle.pending_drain.specs.declared.restoring.ChanceFound.the-variants as Chance
 use Rattle.pending_drain.specs.Restoring.{HasChance, FindsChance}
-use Rattle.pending_drain.proofs.HeldLabels.{all-back}
 
 module _ (w b : List ℕ) (id n : ℕ) where
   -- nothing is found where there is no chance
@@ -36,7 +36,7 @@ module _ (w b : List ℕ) (id n : ℕ) where
   unfolding recordsFrom
   none-handed some none =
       let empty : tableOf w .handed ≡ [] =
-      rest-records w (recordsAt (limitsOf w)) (heldCount w) (chanceCount w)
+      records-behind w (recordsAt (limitsOf w)) (heldCount w) (chanceCount w)
       ∙ ap (recordsFrom w (recordsAt (limitsOf w) + recordWords * heldCount w)) none in
       nothing (rw (empty, lt-leb n 0 some) (and-false (eqb id 0)))
 
@@ -49,7 +49,7 @@ module _ (w b : List ℕ) (id n : ℕ) where
         let legal = words-say w (length b) ok in
         let c : chanceCount w ≡ 1 = omega (arith, legal .chance-flag, pos-of-ne-zero one) in
         let start : recordsAt (limitsOf w) ≡ p = sym (from ∙ ap recordsAt limits) in
-        rest-records w (recordsAt (limitsOf w)) (heldCount w) (chanceCount w) ∙ rw (c, start, read)
+        records-behind w (recordsAt (limitsOf w)) (heldCount w) (chanceCount w) ∙ rw (c, start, read)
 
     counted : length (bodiesAt b (t .label) (tableOf w .entries)) ≡ t .count
     counted =

@@ -7,6 +7,8 @@ use Prim.Native.Nat.{ℕ, _+_, _*_, _-_, _≤_, _<_}
 use native.Mathlib.Omega.{arith}
 use lib.ListN.{length, take, drop}
 use Rattle.config.specs.Limits.{recordWords, wordsNeeded}
+use Rattle.config.proofs.Lists.{all-front}
+use Rattle.areas.proofs.Puts.{drop-more}
 use Rattle.table.specs.declared.Entry.{Entry}
 use Rattle.table.specs.Layout.{limitsOf, cachedWord, droppedWord, heldCount, entryCount, chanceCount, entriesAt}
 use Rattle.table.specs.Layout.{recordsAt}
@@ -16,7 +18,6 @@ use Rattle.table.specs.WellFormed.{wellFormed}
 use Rattle.table.proofs.Words.{length-entries}
 use Rattle.table.proofs.Facts.{Placed, LegalWords, words-say}
 use Rattle.table_entries.specs.Sums.{heldSum}
-use Rattle.table_records.proofs.Frames.{drop-more}
 use Rattle.cache_model.specs.Bodies.{Body, Template, expired, keep, allBodies, bodiesOf, without}
 use Rattle.cache_model.specs.Cache.{Cache, raised, chanceOf, count}
 use Rattle.cache_model.specs.Calls.{drained}
@@ -35,7 +36,7 @@ use Rattle.pending_calls.specs.declared.removal.Removed.{Removed}
 use Rattle.pending_calls.specs.Promises.{Does}
 use Rattle.pending_calls.proofs.Headers.{headed}
 use Rattle.pending_drain.specs.Handing.{TakesOut, HandsOut}
-use Rattle.pending_drain.proofs.HeldLabels.{heldLabel, all-front}
+use Rattle.pending_drain.proofs.HeldLabels.{heldLabel}
 use Rattle.pending_drain.proofs.HeldTotals.{held-total}
 use Rattle.pending_drain.proofs.TakenOut as Out
 use Rattle.pending_drain.proofs.HandedRows.{HandedRows, rows-handed}

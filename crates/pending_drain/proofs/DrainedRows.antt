@@ -3,7 +3,7 @@
 use mathlib.Core.Path.{_≡_, refl, sym, ap, _∙_}
 use mathlib.Core.Logic.{_≢_}
 use mathlib.Core.Bool.{Bool, true, false, not, cond}
-use mathlib.Core.List.{List, [], _∷_, _++_, append-nil}
+use mathlib.Core.List.{List, [], _++_, append-nil}
 use Prim.Native.Nat.{ℕ, suc, _≤_, _<_}
 use native.Mathlib.Omega.{arith}
 use native.Mathlib.Decide.{ℕ-discrete}
@@ -12,36 +12,38 @@ use lib.ListN.{length, getD, drop, length-drop, getD-replicate}
 use lib.Seq.{getD-set-other}
 use borrow.Author.Tests.{eqb-true, eqb-false, eq-eqb}
 use Rattle.config.specs.declared.Ttl.{Ttl}
+use Rattle.config.proofs.Lists.{All, all-map, all-both, all-front, all-back}
 use Rattle.table.specs.declared.Entry.{Entry}
 use Rattle.table.specs.declared.TemplateRecord.{TemplateRecord}
 use Rattle.table.specs.declared.LabelFound.{LabelFound}
 use Rattle.table.specs.declared.LabelFound.the-variants as Label
 use Rattle.table.specs.Table.{hasLabel, tally}
 use Rattle.table.specs.Reads.{labelOf}
-use Rattle.table.proofs.Facts.{All, all-map, all-both, Differ}
-use Rattle.table.proofs.Labels.{absent-holds}
+use Rattle.table.proofs.Facts.{Differ, differ-front}
+use Rattle.table.proofs.Labels.{own-labels, labels-apart}
 use Rattle.table_entries.specs.declared.StayTest.{StayTest}
 use Rattle.table_entries.specs.Sweep.{swept}
 use Rattle.table_entries.proofs.Swept.{length-swept, all-swept}
 use Rattle.table_records.specs.Close.{closed}
 use Rattle.table_records.specs.Choose.{skipAll, skipping}
 use Rattle.table_records.proofs.Skips.{length-skipping, skipping-at}
+use Rattle.table_records.proofs.Closed.{closed-all}
 use Rattle.cache_model.specs.Bodies.{Body, Template, expired, keep, bodiesOf, without}
 use Rattle.cache_model.proofs.Parts as Parts
 use Rattle.cache_model.proofs.Parts.{length-without}
 use Rattle.cache_model.proofs.Lists.{length-part}
 use Rattle.cache_model.proofs.Thinning.{without-thinned}
 use Rattle.pending_flows.specs.View.{bodiesAt, templatesAt}
-use Rattle.pending_flows.proofs.Templates.{length-bodies, length-templates, bodiesOfLabel, bodies-of-id}
+use Rattle.pending_flows.proofs.Templates.{length-bodies, length-templates, bodiesOfLabel, bodies-of-id, no-bodies}
 use Rattle.table_view.proofs.Tied.{Tied, entries-small, none-above}
 use Rattle.table_view.proofs.Swept.{bodyStays, Within, swept-bodies}
-use Rattle.table_view.proofs.Removed.{lenMost, labelCounts, labelCountsBut, label-counts, none-set, closed-all}
+use Rattle.table_view.proofs.Removed.{labelCounts, labelCountsBut, label-counts, none-set}
 use Rattle.table_view.proofs.Closed.{Left, closed-templates, closed-append, closed-none}
+use Rattle.table_view.proofs.Summed.{lenMost}
 use Rattle.pending_drain.specs.Handing.{labelOrNone, zeros, unexpired}
-use Rattle.pending_drain.proofs.HeldLabels.{heldLabel, held-label-says, held-label-alone, all-front, all-back}
-use Rattle.pending_drain.proofs.HeldLabels.{differ-front, differ-across}
+use Rattle.pending_drain.proofs.HeldLabels.{heldLabel, held-label-says, held-label-alone}
 use Rattle.pending_drain.proofs.Handing.{length-zeros}
-use Rattle.pending_drain.proofs.Staying.{others-stay, live-stay, kept-few, none-of-none}
+use Rattle.pending_drain.proofs.Staying.{others-stay, live-stay, kept-few}
 
 module _ (b : List ℕ) (ttl : Ttl) (i now : ℕ) (held handed : List TemplateRecord) (es : List Entry) where
   -- the label of the id, which bodies stay, the entries that are left, and how many each other label has left
@@ -90,17 +92,12 @@ module _ (b : List ℕ) (ttl : Ttl) (i now : ℕ) (held handed : List TemplateRe
 
     -- ---- what was handed out before goes
 
-    own-label : (rs : List TemplateRecord) → length rs ≤ 1 → All (λ r. hasLabel (r .label) rs ≡ true) rs
-    own-label [] h = tt
-    own-label (r ∷ []) h = (rw (eq-eqb (r .label) (r .label) refl), tt)
-    own-label (r ∷ u ∷ rs) h = absurd (omega arith)
-
     handed-leaving : closed kept handed ≡ []
     handed-leaving =
         closed-none kept handed
         (all-both (λ r. hasLabel (r .label) handed ≡ true) (λ r. r .label < 1024)
         (λ r. getD kept (r .label) 0 ≡ 0) empty
-        handed (own-label handed single) (all-back (λ r. r .label < 1024) held handed (tied .labels-small)))
+        handed (own-labels handed) (all-back (λ r. r .label < 1024) held handed (tied .labels-small)))
       where
         empty : (r : TemplateRecord) → hasLabel (r .label) handed ≡ true → r .label < 1024 → getD kept (r .label) 0 ≡ 0
         empty r has small = by-label (ℕ-discrete (r .label) label)
@@ -122,9 +119,7 @@ module _ (b : List ℕ) (ttl : Ttl) (i now : ℕ) (held handed : List TemplateRe
     -- ---- the other templates stay whole
 
     not-handed : All (λ r. hasLabel (r .label) handed ≡ false) held
-    not-handed =
-        all-map (λ r. All (λ u. r .label ≢ u .label) handed) (λ r. hasLabel (r .label) handed ≡ false)
-        (λ r a. absent-holds (r .label) handed a) held (differ-across (λ r. r .label) held handed (tied .labels-differ))
+    not-handed = labels-apart held handed (tied .labels-differ)
 
     held-small : All (λ r. r .label < 1024) held
     held-small = all-front (λ r. r .label < 1024) held handed (tied .labels-small)
@@ -187,7 +182,7 @@ module _ (b : List ℕ) (ttl : Ttl) (i now : ℕ) (held handed : List TemplateRe
     left-small = all-swept (λ e. e .label < 1024) test skip es all-small
 
     no-label-none : (k : ℕ) → k ≡ 1024 → (xs : List Entry) → All (λ e. e .label < 1024) xs → bodiesAt b k xs ≡ []
-    no-label-none k d xs small = none-of-none b k xs (rw d (none-above xs small))
+    no-label-none k d xs small = no-bodies b k xs (rw d (none-above xs small))
 
     bodies-of : bodiesOf i templates ≡ bodiesAt b label es
     bodies-of = bodies-of-id b i es held ∙ by-found (labelOf i held)

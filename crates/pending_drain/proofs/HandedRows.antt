@@ -10,22 +10,21 @@ use native.Mathlib.Decide.{ℕ-discrete}
 use lib.ListN.{length, take, drop, length-append}
 use lib.Seq.{take-at, drop-at}
 use Rattle.config.specs.Limits.{recordWords, entryWords}
+use Rattle.config.proofs.Lists.{All, all-map}
+use Rattle.areas.proofs.Puts.{drop-more}
 use Rattle.table.specs.declared.Entry.{Entry}
 use Rattle.table.specs.declared.TemplateRecord.{TemplateRecord}
 use Rattle.table.specs.Layout.{entriesAt}
 use Rattle.table.specs.Table.{entriesFrom, recordsFrom, indexFrom, tally}
 use Rattle.table.specs.Reads.{countSum}
-use Rattle.table.proofs.Words.{length-records}
-use Rattle.table.proofs.Facts.{All, all-map}
+use Rattle.table.proofs.Words.{length-records, records-behind}
 use Rattle.table_entries.proofs.Frames.{entries-below}
 use Rattle.table_records.specs.Add.{inserted, Adds}
 use Rattle.table_records.proofs.AddedIndex.{index-after-adding}
-use Rattle.table_records.proofs.Frames.{drop-more}
 use Rattle.cache_model.specs.Bodies.{Body, Template}
 use Rattle.cache_model.specs.Cache.{noChance, chanceOf}
 use Rattle.pending_flows.specs.View.{bodiesAt, chanceAt}
 use Rattle.pending_flows.proofs.Questions.{first-records}
-use Rattle.pending_flows.proofs.Figures.{rest-records}
 use Rattle.pending_flows.proofs.Templates.{length-bodies}
 use Rattle.pending_flows.proofs.Weights.{count-append}
 use Rattle.table_view.proofs.Tied.{apart-tied}
@@ -76,7 +75,7 @@ module _ (b : List ℕ) (a i p k m n : ℕ) (w w′ : List ℕ) (c : ℕ) (apart
         single = omega arith;
         entries = refl;
         held = refl;
-        chance = rw (rest-records w p k 0) (no-chance i (bodiesAt b a es) (omega (arith, length-bodies b a es)));
+        chance = rw (records-behind w p k 0) (no-chance i (bodiesAt b a es) (omega (arith, length-bodies b a es)));
         counts = rw (add-zero k) (omega arith);
         behind = λ q r. refl;
       })

@@ -3,16 +3,17 @@
 use mathlib.Core.Path.{_≡_, refl, sym, ap, _∙_}
 use mathlib.Core.Logic.{_≢_}
 use mathlib.Core.Bool.{Bool, true, false, cond}
-use mathlib.Core.List.{List, [], _∷_, _++_}
+use mathlib.Core.List.{List, [], _∷_}
 use Prim.Native.Nat.{ℕ, _<_}
 use native.Mathlib.Omega.{arith}
 use lib.Dec.{eqb}
 use borrow.Author.Tests.{eqb-true, eq-eqb, ne-eqb}
+use Rattle.config.proofs.Lists.{All, all-map, all-both}
 use Rattle.table.specs.declared.TemplateRecord.{TemplateRecord}
 use Rattle.table.specs.declared.LabelFound.{LabelFound}
 use Rattle.table.specs.declared.LabelFound.the-variants as Label
 use Rattle.table.specs.Reads.{labelOf}
-use Rattle.table.proofs.Facts.{All, all-map, all-both, Differ}
+use Rattle.table.proofs.Facts.{Differ}
 use Rattle.pending_drain.specs.Handing.{labelOrNone}
 
 abbrev pub heldLabel : ℕ → List TemplateRecord → ℕ
@@ -61,22 +62,3 @@ held-label-alone i (r ∷ rs) keys labels small =
           (all-map (λ u. r .label ≢ u .label) (λ u. u .label ≡ r .label → ⊥) (λ u n d. n (sym d)) rs (labels .0)))),
       ih,
     )
-
--- ---- parts of lists
-
-pub all-front : {A : Type 0} (P : A → Type 0) (xs ys : List A) → All P (xs ++ ys) → All P xs
-all-front P [] ys a = tt
-all-front P (x ∷ xs) ys a = (a .0, all-front P xs ys (a .1))
-
-pub all-back : {A : Type 0} (P : A → Type 0) (xs ys : List A) → All P (xs ++ ys) → All P ys
-all-back P [] ys a = a
-all-back P (x ∷ xs) ys a = all-back P xs ys (a .1)
-
-module _ (f : TemplateRecord → ℕ) where
-  pub differ-front : (rs us : List TemplateRecord) → Differ f (rs ++ us) → Differ f rs
-  differ-front [] us d = tt
-  differ-front (r ∷ rs) us d = (all-front _ rs us (d .0), differ-front rs us (d .1))
-
-  pub differ-across : (rs us : List TemplateRecord) → Differ f (rs ++ us) → All (λ r. All (λ u. f r ≢ f u) us) rs
-  differ-across [] us d = tt
-  differ-across (r ∷ rs) us d = (all-back _ rs us (d .0), differ-across rs us (d .1))

@@ -7,11 +7,13 @@ use Prim.Native.Nat.{ℕ, _+_, _≤_}
 use native.Mathlib.Omega.{arith}
 use lib.Dec.{eqb}
 use borrow.Author.Tests.{eqb-true}
+use Rattle.config.proofs.Lists.{all-map}
+use Rattle.config.proofs.Tests.{or-other}
 use Rattle.table.specs.declared.Entry.{Entry}
 use Rattle.table.specs.declared.TemplateRecord.{TemplateRecord}
 use Rattle.table.specs.Table.{hasLabel, sumLens}
 use Rattle.table.specs.Passes.{heldLen}
-use Rattle.table.proofs.Facts.{all-map, Placed}
+use Rattle.table.proofs.Facts.{Placed}
 use Rattle.table.proofs.Labels.{absent-says}
 use Rattle.table_entries.specs.Sums.{heldSum}
 use Rattle.table_entries.proofs.Lengths.{lensSum, lens-within}
@@ -30,15 +32,11 @@ held-few out (e ∷ es) = by-label (eqb (e .label) out) (held-few out es)
 pub held-fits : (out most : ℕ) (es : List Entry) → Placed 0 most es → heldSum out es ≤ most
 held-fits out most es p = omega (arith, held-few out es, lens-within 0 most es (omega arith) p)
 
-other-known : (s t : Bool) → s || t ≡ true → (t ≡ true → ⊥) → s ≡ true
-other-known true t h d = h
-other-known false t h d = absurd (d h)
-
 pub held-total : {a : ℕ} {rs : List TemplateRecord} {es : List Entry} {is : List ℕ} → TiedApart a rs es is →
     heldSum a es ≡ sumLens rs es
 held-total {a} {rs} {es} tied =
     held-sum-lens a rs (absent-says a rs (tied .label-apart)) es
     (all-map (λ e. hasLabel (e .label) rs || eqb a (e .label) ≡ true)
     (λ e. e .label ≢ a → hasLabel (e .label) rs ≡ true)
-    (λ e h d. other-known (hasLabel (e .label) rs) (eqb a (e .label)) h (λ t. d (sym (eqb-true a (e .label) t)))) es
+    (λ e h d. or-other (hasLabel (e .label) rs) (eqb a (e .label)) h (λ t. d (sym (eqb-true a (e .label) t)))) es
     (tied .labels-known))

@@ -7,10 +7,11 @@ use native.Mathlib.Omega.{arith}
 use lib.ListN.{length, length-drop}
 use lib.Seq.{length-take-le}
 use Rattle.config.specs.Limits.{entryWords}
+use Rattle.config.proofs.Lists.{All, all-map}
 use Rattle.table.specs.Layout.{limitsOf, heldCount, entryCount, chanceCount, entriesAt, recordsAt}
 use Rattle.table.specs.Table.{tableOf, entriesFrom, records, tally}
 use Rattle.table.proofs.Words.{length-entries, length-records}
-use Rattle.table.proofs.Facts.{All, all-map, Placed, LegalWords}
+use Rattle.table.proofs.Facts.{Placed, LegalWords}
 use Rattle.table_entries.specs.declared.StayTest.{StayTest}
 use Rattle.table_entries.specs.Sums.{heldSum}
 use Rattle.table_records.specs.Choose.{skipAll}
@@ -19,7 +20,8 @@ use Rattle.cache_model.proofs.Calls.{limitsAlone, held-within}
 use Rattle.pending_flows.specs.View.{cacheOf}
 use Rattle.table_view.proofs.Swept.{Within, placed-within}
 use Rattle.table_view.proofs.Stored.{legal-limited}
-use Rattle.table_view.proofs.Removed.{lenMost, placed-short}
+use Rattle.table_view.proofs.Removed.{placed-short}
+use Rattle.table_view.proofs.Summed.{lenMost}
 use Rattle.pending_calls.specs.declared.removal.Removed.{Removed}
 use Rattle.pending_calls.specs.Removal.{Removes}
 use Rattle.pending_calls.proofs.Removed.{TiedRowsApart, rows-left, placed-left, apart-left, rows-tied, rows-placed}

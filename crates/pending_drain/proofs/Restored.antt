@@ -8,6 +8,8 @@ use native.Mathlib.Omega.{arith}
 use lib.ListN.{length, take, drop, take-append-drop}
 use borrow.Author.Tests.{eq-eqb, ne-eqb, le-leb}
 use Rattle.config.specs.Limits.{recordWords, wordsNeeded}
+use Rattle.config.proofs.Lists.{all-back}
+use Rattle.areas.proofs.Puts.{drop-more}
 use Rattle.table.specs.declared.Entry.{Entry}
 use Rattle.table.specs.declared.TemplateRecord.{TemplateRecord}
 use Rattle.table.specs.Layout.{limitsOf, cachedWord, droppedWord, heldCount, chanceCount, entriesAt}
@@ -15,9 +17,9 @@ use Rattle.table.specs.Layout.{recordsAt}
 use Rattle.table.specs.Table.{tableOf, entriesFrom, recordsFrom, records, index, tally}
 use Rattle.table.specs.WellFormed.{wellFormed}
 use Rattle.table.proofs.Facts.{Placed, LegalWords, words-say}
+use Rattle.table.proofs.Words.{records-behind}
 use Rattle.table_entries.specs.Sums.{heldSum}
 use Rattle.table_records.specs.Close.{closed}
-use Rattle.table_records.proofs.Frames.{drop-more}
 use Rattle.cache_model.specs.Bodies.{Template}
 use Rattle.cache_model.specs.Cache.{Cache, Outcome, done, noChance}
 use Rattle.cache_model.specs.Calls.{mayPutBack, restored, putBack}
@@ -26,7 +28,6 @@ use Rattle.pending_flows.specs.declared.header.HeaderFigures.{HeaderFigures}
 use Rattle.pending_flows.specs.Header.{figuresAt}
 use Rattle.pending_flows.specs.View.{bodiesAt, templatesAt, chanceAt, areasOf, cacheOf}
 use Rattle.pending_flows.proofs.Questions.{first-records}
-use Rattle.pending_flows.proofs.Figures.{rest-records}
 use Rattle.pending_flows.proofs.Templates.{length-bodies}
 use Rattle.table_view.proofs.Tied.{Tied, words-tied, no-label-tied}
 use Rattle.table_view.proofs.Stored.{tableWith, legal-limited}
@@ -35,7 +36,6 @@ use Rattle.pending_calls.specs.Promises.{Does}
 use Rattle.pending_calls.proofs.Headers.{headed}
 use Rattle.pending_calls.proofs.Removed.{TiedRows}
 use Rattle.pending_drain.specs.Restoring.{HasChance, TakesBack}
-use Rattle.pending_drain.proofs.HeldLabels.{all-back}
 use Rattle.pending_drain.proofs.HeldTotals.{held-total}
 use Rattle.pending_drain.proofs.LegalRows.{bodies-within, bodies-short, entries-few, held-limited, removed-tied}
 use Rattle.pending_drain.proofs.LegalRows.{removed-placed}
@@ -128,7 +128,7 @@ module _ (w b : List ℕ) (n : ℕ) (t : TemplateRecord) where
           let held : templatesAt b es (take (r .records) all) ≡ cache .held ++ (back ∷ []) =
           ap (templatesAt b es) (first-records w′ p (r .records) 0) ∙ templates-are in
           let none : chanceAt b es (drop (r .records) all) ≡ noChance =
-          ap (chanceAt b es) (rest-records w′ p (r .records) 0) in
+          ap (chanceAt b es) (records-behind w′ p (r .records) 0) in
           λ j. record {
             limits = limitsOf w;
             cached = cachedWord w;

@@ -8,27 +8,26 @@ use native.Mathlib.Omega.{arith}
 use lib.ListN.{length, getD, set, drop, length-drop, length-set, getD-replicate}
 use lib.Seq.{getD-set-same, getD-set-other}
 use borrow.Author.Tests.{lt-ltb}
+use Rattle.config.proofs.Lists.{All, all-of, all-both, all-front, all-back}
 use Rattle.table.specs.declared.Entry.{Entry}
 use Rattle.table.specs.declared.TemplateRecord.{TemplateRecord}
 use Rattle.table.specs.Table.{tally}
-use Rattle.table.proofs.Facts.{All, all-both}
+use Rattle.table.proofs.Facts.{differ-across}
 use Rattle.table_entries.specs.Sums.{sumMost}
 use Rattle.table_entries.specs.Sweep.{swept}
 use Rattle.table_entries.proofs.Swept.{length-swept, all-swept}
 use Rattle.table_records.specs.Close.{recounted, closed}
 use Rattle.cache_model.specs.Bodies.{Body}
 use Rattle.cache_model.proofs.Parts as Parts
-use Rattle.cache_model.proofs.Lists as Lists
 use Rattle.cache_model.proofs.Thinning.{thinned-all}
 use Rattle.pending_flows.specs.View.{bodiesAt, templatesAt}
 use Rattle.pending_flows.proofs.Templates.{length-bodies}
 use Rattle.table_view.proofs.Tied.{Tied}
 use Rattle.table_view.proofs.Swept.{Within, swept-bodies}
-use Rattle.table_view.proofs.Summed.{everything-stays}
-use Rattle.table_view.proofs.Removed.{everything, lenMost, labelCounts, labelCountsBut, label-counts}
+use Rattle.table_view.proofs.Summed.{everything-stays, everything, lenMost}
+use Rattle.table_view.proofs.Removed.{labelCounts, labelCountsBut, label-counts}
 use Rattle.table_view.proofs.Closed.{Left, closed-templates, closed-append, templates-append}
 use Rattle.pending_drain.specs.Handing.{zeros}
-use Rattle.pending_drain.proofs.HeldLabels.{all-front, all-back, differ-across}
 use Rattle.pending_drain.proofs.Handing.{length-zeros}
 
 module _ (b : List ℕ) (n : ℕ) (held : List TemplateRecord) (t : TemplateRecord) (es : List Entry) where
@@ -95,7 +94,7 @@ module _ (b : List ℕ) (n : ℕ) (held : List TemplateRecord) (t : TemplateReco
     held-left filled =
         closed-templates b kept es left held (λ j bs. bs) others-left
         ∙ thinned-all (λ j bs. bs) (templatesAt b es held) filled
-        (Lists.all-of (λ u. u .bodies ≡ u .bodies) (templatesAt b es held) (λ u. refl))
+        (all-of (λ u. u .bodies ≡ u .bodies) (templatesAt b es held) (λ u. refl))
 
     -- ---- the handed-out one
 

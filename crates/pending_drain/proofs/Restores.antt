@@ -11,11 +11,12 @@ use Rattle.areas.specs.Overwrite.{overwritten}
 use Rattle.config.specs.declared.PendingFlowsConfig.{PendingFlowsConfig}
 use Rattle.config.specs.Limits.{headerWords, entryWords}
 use Rattle.config.proofs.Limits.{cap-small}
+use Rattle.config.proofs.Lists.{All, all-back}
 use Rattle.table.specs.declared.TemplateRecord.{TemplateRecord}
 use Rattle.table.specs.Layout.{limitsOf, entriesAt, recordsAt}
 use Rattle.table.specs.Table.{tableOf, entriesFrom}
 use Rattle.table.specs.WellFormed.{wellFormed}
-use Rattle.table.proofs.Facts.{All, LegalRecord, words-say}
+use Rattle.table.proofs.Facts.{LegalRecord, words-say}
 use Rattle.table_entries.specs.declared.StayTest.{StayTest}
 use Rattle.table_entries.specs.Sums.{heldSum}
 use Rattle.table_entries.specs.Sweep.{swept}
@@ -38,7 +39,6 @@ use Rattle.pending_drain.specs.Restoring.{HasChance, FindsChance, TakesB
 use Rattle.pending_drain.specs.Promises.{PutsBack}
 use Rattle.pending_drain.proofs.AsRead.{as-read}
 use Rattle.pending_drain.proofs.Handing.{length-zeros}
-use Rattle.pending_drain.proofs.HeldLabels.{all-back}
 use Rattle.pending_drain.proofs.LegalRows.{removed-below, removed-fits}
 use Rattle.pending_drain.proofs.Restored.{put-back-does}
 

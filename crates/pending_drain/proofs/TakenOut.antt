@@ -10,24 +10,25 @@ use native.Mathlib.Decide.{ℕ-discrete}
 use lib.ListN.{length, getD, take-append-drop, List·getD-eq-default}
 use Rattle.config.specs.declared.PendingFlowsConfig.{PendingFlowsConfig}
 use Rattle.config.specs.Limits.{entryWords}
+use Rattle.config.proofs.Lists.{All}
 use Rattle.table.specs.declared.Entry.{Entry}
 use Rattle.table.specs.declared.TemplateRecord.{TemplateRecord}
 use Rattle.table.specs.Layout.{limitsOf, heldCount, entryCount, chanceCount, entriesAt, recordsAt}
 use Rattle.table.specs.Table.{tableOf, entriesFrom, recordsFrom, records, index, tally}
-use Rattle.table.proofs.Words.{length-records}
-use Rattle.table.proofs.Facts.{All, Placed, LegalWords}
+use Rattle.table.proofs.Words.{length-records, records-behind}
+use Rattle.table.proofs.Facts.{Placed, LegalWords}
 use Rattle.table_entries.specs.declared.StayTest.{StayTest}
 use Rattle.table_entries.specs.Sums.{heldSum}
+use Rattle.table_entries.proofs.LabelSums.{length-summed}
 use Rattle.table_records.specs.Close.{closed}
 use Rattle.table_records.specs.Choose.{skipAll, skipping}
 use Rattle.cache_model.specs.Bodies.{Body, without}
 use Rattle.cache_model.specs.Cache.{Cache}
 use Rattle.pending_flows.specs.Header.{figuresAt}
 use Rattle.pending_flows.specs.View.{bodiesAt, templatesAt, cacheOf}
-use Rattle.pending_flows.proofs.Figures.{rest-records}
 use Rattle.table_view.proofs.Tied.{Tied, words-tied, none-above}
 use Rattle.table_view.proofs.Swept.{Within}
-use Rattle.table_view.proofs.Removed.{everything, lenMost, length-summed}
+use Rattle.table_view.proofs.Summed.{everything, lenMost}
 use Rattle.pending_calls.specs.declared.removal.Removed.{Removed}
 use Rattle.pending_calls.specs.Removal.{counted, Removes}
 use Rattle.pending_calls.proofs.Removed.{TiedRowsApart}
@@ -95,7 +96,7 @@ module _ (w b : List ℕ) (i now : ℕ) where
 
     module _ {w′ : List ℕ} {r : Removed} (taken : TakesOut (l .ttl) now label p (figuresAt w) w w′ r) where
       out : Removes test p (n + chanceCount w) (entryCount w) label (skipping zeros handed) zeros w w′ kept r
-      out = rw (rest-records w p n (chanceCount w)) taken
+      out = rw (records-behind w p n (chanceCount w)) taken
 
       abbrev es′ : List Entry
       es′ = entriesFrom w′ entriesAt (r .entries)

@@ -13,7 +13,7 @@ use Rattle.table.specs.Layout.{limitsOf, entriesAt, recordsAt}
 use Rattle.table.specs.Table.{entriesFrom, recordsFrom, indexFrom, sumLens}
 use Rattle.table.proofs.Facts.{Placed, LegalWords}
 use Rattle.table_entries.proofs.Frames.{entries-above}
-use Rattle.table_records.proofs.Frames.{records-above}
+use Rattle.table_records.proofs.Frames.{records-above, index-above}
 use Rattle.cache_model.specs.Cache.{Cache}
 use Rattle.cache_model.proofs.Calls.{Limited}
 use Rattle.pending_flows.specs.declared.header.HeaderFigures.{HeaderFigures}
@@ -22,7 +22,6 @@ use Rattle.pending_flows.proofs.Questions.{first-records}
 use Rattle.table_view.proofs.Stored.{Stored, tableWith, stored-view}
 use Rattle.pending_calls.specs.Promises.{UntouchedPast}
 use Rattle.pending_calls.proofs.Headers.{headed, headed-flag, headed-limits, headed-length, headed-behind}
-use Rattle.pending_calls.proofs.IndexFrames.{index-above}
 use Rattle.pending_calls.proofs.Removed.{TiedRows}
 
 module _ (w b w′ : List ℕ) (legal : LegalWords w (length b)) (f : HeaderFigures) (long : length w′ ≡ length w) where

@@ -16,15 +16,15 @@ use Rattle.table.specs.Layout.{limitsOf, heldCount, chanceCount, recordsAt}
 use Rattle.table.specs.Table.{tableOf, recordsFrom, tally}
 use Rattle.table.specs.WellFormed.{wellFormed}
 use Rattle.table.specs.Reads.{countOf}
-use Rattle.table.proofs.Facts.{All}
+use Rattle.config.proofs.Lists.{All, all-front, all-of}
 use Rattle.cache_model.specs.Bodies.{Body, keep, bodiesOf, expired}
-use Rattle.cache_model.proofs.Lists.{length-part, all-of}
+use Rattle.cache_model.proofs.Lists.{length-part}
 use Rattle.cache_model.proofs.Parts.{sub-keep}
 use Rattle.cache_model.proofs.Pruning.{keep-all}
 use Rattle.pending_flows.specs.Live.{liveOf}
 use Rattle.pending_flows.specs.View.{bodiesAt, templatesAt, cacheOf}
 use Rattle.pending_flows.proofs.Templates.{length-bodies}
-use Rattle.pending_flows.proofs.Figures.{all-front, counts-right}
+use Rattle.pending_flows.proofs.Figures.{counts-right}
 use Rattle.pending_flows.proofs.Questions.{first-records}
 
 -- where each record's count is right, an id has as many bodies as its record counts

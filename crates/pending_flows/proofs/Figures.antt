@@ -2,23 +2,24 @@
 use mathlib.Core.Path.{_≡_, refl, ap, sym, _∙_}
 use mathlib.Core.Bool.{Bool, true, false, cond}
 use mathlib.Core.List.{List, [], _∷_, _++_}
-use Prim.Native.Nat.{ℕ, zero, suc, _+_, _*_, _-_, _≤_}
-use native.Mathlib.Nat.{suc-add, zero-add, pos-of-ne-zero}
+use Prim.Native.Nat.{ℕ, _+_, _*_, _-_, _≤_}
+use native.Mathlib.Nat.{pos-of-ne-zero}
 use native.Mathlib.Omega.{arith}
 use lib.Dec.{eqb}
-use lib.ListN.{length, drop, take-append-drop, length-drop}
+use lib.ListN.{length, drop, length-drop}
 use lib.Seq.{length-take-le}
 use Rattle.config.specs.declared.PendingFlowsConfig.{PendingFlowsConfig}
 use Rattle.config.specs.Limits.{headerWords, recordWords}
+use Rattle.config.proofs.Lists.{All, all-map, all-front, all-back}
 use Rattle.table.specs.declared.Entry.{Entry}
 use Rattle.table.specs.declared.TemplateRecord.{TemplateRecord}
 use Rattle.table.specs.Layout.{limitsOf, cachedWord, droppedWord, totalWord, heldCount, entryCount, chanceCount}
 use Rattle.table.specs.Layout.{recordsAt}
-use Rattle.table.specs.Table.{tableOf, recordAt, recordsFrom, records, hasLabel, tally}
+use Rattle.table.specs.Table.{tableOf, recordAt, recordsFrom, hasLabel, tally}
 use Rattle.table.specs.WellFormed.{wellFormed}
 use Rattle.table.specs.Reads.{countSum}
-use Rattle.table.proofs.Words.{length-entries, length-records}
-use Rattle.table.proofs.Facts.{All, all-map, Differ, Placed, LegalWords, words-say}
+use Rattle.table.proofs.Words.{length-entries, length-records, records-behind}
+use Rattle.table.proofs.Facts.{Placed, LegalWords, words-say, differ-front}
 use Rattle.cache_model.specs.Bodies.{size, sumBodies, allBodies, byteTotal}
 use Rattle.cache_model.specs.Cache.{tells}
 use Rattle.cache_model.specs.Queries.{figures}
@@ -29,28 +30,6 @@ use Rattle.pending_flows.proofs.Templates.{length-bodies, length-templa
 use Rattle.pending_flows.proofs.Questions.{first-records, answered}
 use Rattle.pending_flows.proofs.Weights.{weigh, weighAll, weights-agree, counts-sum, len, lens-weigh}
 use Rattle.pending_flows.proofs.Weights.{count-append}
-
-pub all-front : {A : Type 0} (P : A → Type 0) (xs ys : List A) → All P (xs ++ ys) → All P xs
-all-front P [] ys a = tt
-all-front P (x ∷ xs) ys a = (a .0, all-front P xs ys (a .1))
-
-all-back : {A : Type 0} (P : A → Type 0) (xs ys : List A) → All P (xs ++ ys) → All P ys
-all-back P [] ys a = a
-all-back P (x ∷ xs) ys a = all-back P xs ys (a .1)
-
-differ-front : (f : TemplateRecord → ℕ) (rs ss : List TemplateRecord) → Differ f (rs ++ ss) → Differ f rs
-differ-front f [] ss d = tt
-differ-front f (r ∷ rs) ss d = (all-front _ rs ss (d .0), differ-front f rs ss (d .1))
-
--- The records behind the first n.
-pub rest-records : (w : List ℕ) (p n c : ℕ) → drop n (recordsFrom w p (n + c)) ≡ recordsFrom w (p + recordWords * n) c
-unfolding recordsFrom
-rest-records w p zero c =
-    let z : p + recordWords * 0 ≡ p = omega arith in
-    rw (zero-add c, z)
-rest-records w p (suc n) c =
-    let z : p + recordWords + recordWords * n ≡ p + recordWords * suc n = omega arith in
-    rw (suc-add n c) (rest-records w (p + recordWords) n c ∙ rw z)
 
 -- Handed-out bodies, by the record behind the held ones: l are the limits that were read, p where the records begin.
 module _ (w : List ℕ) (n p : ℕ) (l : PendingFlowsConfig) (ok : wellFormed w n ≡ true) (limits : l ≡ limitsOf w)
@@ -70,14 +49,14 @@ module _ (w : List ℕ) (n p : ℕ) (l : PendingFlowsConfig) (ok : wellFormed w 
       let legal : LegalWords w n = words-say w n ok in
       let c : chanceCount w ≡ 1 = omega (arith, legal .chance-flag, pos-of-ne-zero some) in
       let q : recordsAt (limitsOf w) ≡ p = sym start in
-      rw (rest-records w (recordsAt (limitsOf w)) (heldCount w) (chanceCount w), c, q, e) (omega arith)
+      rw (records-behind w (recordsAt (limitsOf w)) (heldCount w) (chanceCount w), c, q, e) (omega arith)
 
 pub handed-none : (w : List ℕ) → chanceCount w ≡ 0 → 0 ≡ countSum (tableOf w .handed)
 unfolding countSum recordsFrom
-handed-none w e = rw (rest-records w (recordsAt (limitsOf w)) (heldCount w) (chanceCount w), e)
+handed-none w e = rw (records-behind w (recordsAt (limitsOf w)) (heldCount w) (chanceCount w), e)
 
 -- A body is as long as its entry says, where it lies within the bytes.
-sized : (bytes : List ℕ) (from most : ℕ) (es : List Entry) → most ≤ length bytes → Placed from most es →
+pub sized : (bytes : List ℕ) (from most : ℕ) (es : List Entry) → most ≤ length bytes → Placed from most es →
     All (λ e. size (bodyAt bytes e) ≡ e .len) es
 sized bytes from most [] m p = tt
 sized bytes from most (e ∷ es) m p = (
@@ -97,7 +76,7 @@ sizes-weigh bytes k (e ∷ es) h = by-label (eqb k (e .label)) (sizes-weigh byte
     by-label true ih = let s = h .0 in omega arith
     by-label false ih = omega arith
 
-total-weighs : (bytes : List ℕ) (es : List Entry) (rs : List TemplateRecord) →
+pub total-weighs : (bytes : List ℕ) (es : List Entry) (rs : List TemplateRecord) →
     All (λ e. size (bodyAt bytes e) ≡ e .len) es → byteTotal (templatesAt bytes es rs) ≡ weighAll len rs es
 unfolding weighAll
 total-weighs bytes es [] h = refl
@@ -108,9 +87,6 @@ total-weighs bytes es (r ∷ rs) h =
 module _ (w b : List ℕ) (ok : wellFormed w (length b) ≡ true) where
   legal : LegalWords w (length b)
   legal = words-say w (length b) ok
-
-  joined : tableOf w .held ++ tableOf w .handed ≡ records w
-  joined = take-append-drop (heldCount w) (records w)
 
   pub counts-right : All (λ r. r .count ≡ tally (r .label) (tableOf w .entries)) (tableOf w .held ++ tableOf w .handed)
   counts-right = all-map _ _ (λ r x. x .count-right) (tableOf w .held ++ tableOf w .handed)
@@ -153,7 +129,7 @@ module _ (w b : List ℕ) (ok : wellFormed w (length b) ≡ true) where
   handed-long : length (tableOf w .handed) ≡ chanceCount w
   handed-long =
       let n = heldCount w in
-      ap length (rest-records w (recordsAt (limitsOf w)) n (chanceCount w))
+      ap length (records-behind w (recordsAt (limitsOf w)) n (chanceCount w))
       ∙ length-records w (recordsAt (limitsOf w) + recordWords * n) (chanceCount w)
 
   handed-counted : (rs : List TemplateRecord) → length rs ≤ 1 →

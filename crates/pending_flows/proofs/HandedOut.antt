@@ -12,6 +12,7 @@ use lib.Seq.{length-take-le}
 use borrow.Author.Tests.{lt-ltb, le-ltb}
 use Rattle.config.specs.declared.PendingFlowsConfig.{PendingFlowsConfig}
 use Rattle.config.specs.Limits.{recordWords}
+use Rattle.config.proofs.Lists.{All}
 use Rattle.table.specs.declared.Entry.{Entry}
 use Rattle.table.specs.declared.TemplateRecord.{TemplateRecord}
 use Rattle.table.specs.declared.EntryFound.{EntryFound}
@@ -20,9 +21,10 @@ use Rattle.table.specs.Layout.{limitsOf, heldCount, entryCount, chanceCount, en
 use Rattle.table.specs.Table.{tableOf, recordAt, entriesFrom, recordsFrom}
 use Rattle.table.specs.WellFormed.{wellFormed}
 use Rattle.table.specs.Reads.{nthOf}
-use Rattle.table.proofs.Facts.{All, Placed, LegalWords, words-say}
+use Rattle.table.proofs.Facts.{Placed, LegalWords, words-say}
+use Rattle.table.proofs.Words.{records-behind}
 use Rattle.cache_model.specs.Bodies.{Body}
-use Rattle.cache_model.specs.Cache.{Cache, number, shows, spans}
+use Rattle.cache_model.specs.Cache.{Cache, number, spans}
 use Rattle.cache_model.specs.Queries.{handedOut, readHandedOut, placeHandedOut}
 use Rattle.pending_flows.specs.declared.handed_out.BodyPlace.{BodyPlace}
 use Rattle.pending_flows.specs.declared.handed_out.PlaceRefusal.{PlaceRefusal}
@@ -35,7 +37,6 @@ use Rattle.pending_flows.specs.HandedOut.{shown, placeNumber, placeAnswe
 use Rattle.pending_flows.specs.HandedOut.{ReadsHandedOut}
 use Rattle.pending_flows.proofs.Templates.{NthBody, nth-body}
 use Rattle.pending_flows.proofs.Questions.{damaged, answered}
-use Rattle.pending_flows.proofs.Figures.{rest-records}
 
 -- what holds of every entry holds of one that is found
 found-all : (P : Entry → Type 0) (k n : ℕ) (es : List Entry) (e : Entry) → All P es → nthOf k n es ≡ Found.At e → P e
@@ -65,7 +66,7 @@ not-both h g = let z : _≡_ {A = ℕ} 0 1 = cc in absurd (omega arith)
 no-bodies : (w b : List ℕ) (k : ℕ) → chanceCount w ≡ 0 → length (cacheOf (tableOf w) b .chance .bodies) ≤ k
 unfolding recordsFrom
 no-bodies w b k e =
-    rw (rest-records w (recordsAt (limitsOf w)) (heldCount w) (chanceCount w), e) (omega arith)
+    rw (records-behind w (recordsAt (limitsOf w)) (heldCount w) (chanceCount w), e) (omega arith)
 
 pub none-found : (w b : List ℕ) (k : ℕ) → chanceCount w ≡ 0 → FindsHandedOut w b k Found.Nothing
 none-found w b k e = record {
@@ -89,7 +90,7 @@ module _ (w b : List ℕ) (k p : ℕ) (l : PendingFlowsConfig) (t : TemplateReco
   handed-bodies =
       let c : chanceCount w ≡ 1 = omega (arith, legal .chance-flag, pos-of-ne-zero some) in
       let q : recordsAt (limitsOf w) ≡ p = sym (from ∙ ap recordsAt limits) in
-      rw (rest-records w (recordsAt (limitsOf w)) (heldCount w) (chanceCount w), c, q, is)
+      rw (records-behind w (recordsAt (limitsOf w)) (heldCount w) (chanceCount w), c, q, is)
 
   nth : NthBody b k (bodiesAt b (t .label) (tableOf w .entries)) (nthOf (t .label) k (tableOf w .entries))
   nth = nth-body b (t .label) k (tableOf w .entries)

@@ -34,7 +34,7 @@ use Rattle.pending_flows.specs.Opening.{Opens}
 abbrev openedWords : PendingFlowsConfig → List ℕ → List ℕ
 openedWords l w = openedHeader l ++ drop 12 w
 
-ttl-back : (t : Ttl) → ttlOf (ttlFlag t) (ttlWord t) ≡ t
+pub ttl-back : (t : Ttl) → ttlOf (ttlFlag t) (ttlWord t) ≡ t
 ttl-back None = refl
 ttl-back (After n) = refl
 

@@ -1,5 +1,5 @@
 -- The templates that records and entries stand for: their bodies by label, counted and looked up. Assumes nothing.
-use mathlib.Core.Path.{_≡_, refl, ap}
+use mathlib.Core.Path.{_≡_, refl, ap, _∙_}
 use mathlib.Core.Bool.{Bool, true, false, not, _&&_, cond}
 use mathlib.Core.List.{List, [], _∷_}
 use Prim.Native.Nat.{ℕ, zero, suc, _+_, _-_, _≤_, _<_}
@@ -9,6 +9,7 @@ use lib.ListN.{length, getD, length-append}
 use borrow.Author.Tests.{ne-eqb}
 use Rattle.config.specs.declared.Ttl.{Ttl}
 use Rattle.config.specs.Age.{expiredAt}
+use Rattle.config.proofs.Lists.{All}
 use Rattle.table.specs.declared.Entry.{Entry}
 use Rattle.table.specs.declared.TemplateRecord.{TemplateRecord}
 use Rattle.table.specs.declared.LabelFound.{LabelFound}
@@ -17,7 +18,6 @@ use Rattle.table.specs.declared.EntryFound.{EntryFound}
 use Rattle.table.specs.declared.EntryFound.the-variants as Found
 use Rattle.table.specs.Table.{tally}
 use Rattle.table.specs.Reads.{labelOf, liveCount, countSum, nthOf}
-use Rattle.table.proofs.Facts.{All}
 use Rattle.cache_model.specs.Bodies.{Body, keep, allBodies, bodiesOf, expired}
 use Rattle.cache_model.specs.Queries.{noBody}
 use Rattle.pending_flows.specs.View.{bodyAt, bodiesAt, templatesAt}
@@ -33,6 +33,14 @@ module _ (bytes : List ℕ) where
           ≡ cond b (suc (tally k es)) (tally k es)
       by-label true ih = ap suc ih
       by-label false ih = ih
+
+  -- a label without entries has no bodies
+  pub no-bodies : (k : ℕ) (es : List Entry) → tally k es ≡ 0 → bodiesAt bytes k es ≡ []
+  no-bodies k es none = empty (bodiesAt bytes k es) (length-bodies k es ∙ none)
+    where
+      empty : (bs : List Body) → length bs ≡ 0 → bs ≡ []
+      empty [] e = refl
+      empty (b ∷ bs) e = absurd (omega arith)
 
   -- as many unexpired bodies as live entries
   pub live-bodies : (ttl : Ttl) (now k : ℕ) (es : List Entry) →

@@ -7,11 +7,12 @@ use native.Mathlib.Omega.{arith}
 use lib.Dec.{eqb}
 use lib.ListN.{length}
 use borrow.Author.Tests.{eqb-true, eqb-false, eq-eqb, ne-eqb}
+use Rattle.config.proofs.Lists.{All}
 use Rattle.table.specs.declared.Entry.{Entry}
 use Rattle.table.specs.declared.TemplateRecord.{TemplateRecord}
 use Rattle.table.specs.Table.{hasLabel, tally, sumLens}
 use Rattle.table.specs.Reads.{countSum}
-use Rattle.table.proofs.Facts.{All, Differ}
+use Rattle.table.proofs.Facts.{Differ}
 use Rattle.table.proofs.Labels.{absent-holds}
 
 module _ (f : Entry → ℕ) where

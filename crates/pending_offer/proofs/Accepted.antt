@@ -4,31 +4,33 @@ use mathlib.Core.Path.{_≡_, refl, sym, ap, _∙_, subst}
 use mathlib.Core.Logic.{_≢_}
 use mathlib.Core.Bool.{Bool, true, false, _||_, cond}
 use mathlib.Core.List.{List, [], _∷_, _++_, append-nil}
-use Prim.Native.Nat.{ℕ, _+_, _-_, _≤_, _<_}
+use Prim.Native.Nat.{ℕ, _+_, _≤_, _<_}
 use native.Mathlib.Omega.{arith}
 use lib.Dec.{eqb}
 use lib.ListN.{length, drop, length-append, length-map}
 use borrow.Author.Tests.{eqb-true, eq-eqb, ne-eqb}
 use Rattle.areas.specs.Overwrite.{putAt}
+use Rattle.areas.proofs.Puts.{length-put, drop-put-from}
 use Rattle.config.specs.declared.PendingFlowsConfig.{PendingFlowsConfig}
 use Rattle.config.specs.Limits.{maxBodies}
+use Rattle.config.proofs.Lists.{All, all-map, all-last}
 use Rattle.table.specs.declared.Entry.{Entry}
 use Rattle.table.specs.declared.TemplateRecord.{TemplateRecord}
 use Rattle.table.specs.Layout.{limitsOf, heldCount, entryCount, chanceCount, entriesAt, recordsAt}
 use Rattle.table.specs.Table.{Table, tableOf, entriesFrom, recordsFrom, indexFrom, hasLabel, tally, sumLens}
 use Rattle.table.specs.WellFormed.{wellFormed}
 use Rattle.table.proofs.Words.{length-records, length-entries}
-use Rattle.table.proofs.Facts.{All, all-map, Placed, LegalWords, words-say}
+use Rattle.table.proofs.Facts.{Placed, LegalWords, words-say}
 use Rattle.table.proofs.Labels.{absent-says}
 use Rattle.table_entries.specs.Sums.{heldSum}
 use Rattle.table_entries.specs.Pack.{packedEnd}
 use Rattle.table_entries.proofs.Lengths.{lensSum, held-all, placed-wider}
 use Rattle.table_entries.proofs.Packed.{packed-end}
+use Rattle.table_entries.proofs.LabelSums.{zeros}
 use Rattle.table_records.specs.Add.{inserted}
 use Rattle.table_records.proofs.AddedIndex.{index-after-adding}
 use Rattle.cache_model.specs.Bodies.{Body, Template, size, sumBodies, sumTemplates, bodiesOf}
 use Rattle.cache_model.specs.Offer.{settled}
-use Rattle.cache_model.proofs.Lists.{all-last}
 use Rattle.cache_model.proofs.Weights.{sum-append, sum-templates}
 use Rattle.cache_model.proofs.Calls.{Limited}
 use Rattle.cache_model.proofs.Thinning.{thinned}
@@ -37,14 +39,12 @@ use Rattle.table_view.proofs.Tied.{Tied, TiedApart}
 use Rattle.table_view.proofs.Swept.{placed-within}
 use Rattle.table_view.proofs.Closed.{templates-append, same-templates}
 use Rattle.table_view.proofs.Totals.{lens-total, held-sum-lens}
-use Rattle.table_view.proofs.Frames.{put-long, put-drop}
 use Rattle.table_view.proofs.Appended.{appended-placed, appended-bodies}
 use Rattle.table_view.proofs.Added.{has-last, differ-last, newRecord, added-tied, appended-tally, appended-apart}
 use Rattle.table_view.proofs.Added.{same-tally, same-labels-apart}
 use Rattle.table_view.proofs.Stored.{tied-legal}
 use Rattle.pending_calls.specs.declared.removal.Removed.{Removed}
 use Rattle.pending_calls.specs.Removal.{Removes}
-use Rattle.pending_calls.proofs.Removed.{zeros}
 use Rattle.pending_offer.specs.declared.plan.OfferPlan.{OfferPlan}
 use Rattle.pending_offer.specs.Promises.{bodyOf}
 use Rattle.pending_offer.specs.Plan.{planTest, Plans}
@@ -247,10 +247,10 @@ module _ {w b : List ℕ} {l′ : PendingFlowsConfig} {i : ℕ} {body : List ℕ
   body-within = omega (arith, made .fits, made .long, legal .limits-legal .bytes-enough)
 
   pub bytes-long : length bytes-after ≡ length b
-  bytes-long = put-long place body roomy body-within ∙ made .long
+  bytes-long = length-put place body roomy body-within ∙ made .long
 
   pub bytes-behind : drop most bytes-after ≡ drop most b
-  bytes-behind = put-drop place body roomy body-within most (made .fits) ∙ made .behind
+  bytes-behind = drop-put-from place body roomy body-within most (made .fits) ∙ made .behind
 
   -- the bodies of a label then
   bodies-after : (k : ℕ) → bodiesAt bytes-after k entries-after ≡ bodiesAt b k es ++ cond (eqb k a) (x ∷ []) []

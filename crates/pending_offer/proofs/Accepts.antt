@@ -5,6 +5,7 @@ use Prim.Native.Nat.{ℕ, _+_, _*_, _-_, _^_, _≤_, _<_}
 use native.Mathlib.Omega.{arith}
 use lib.ListN.{length, drop}
 use Rattle.areas.specs.Overwrite.{overwritten}
+use Rattle.areas.proofs.Puts.{drop-more}
 use Rattle.config.specs.declared.PendingFlowsConfig.{PendingFlowsConfig}
 use Rattle.config.specs.Limits.{recordWords, entryWords, wordsNeeded}
 use Rattle.table.specs.declared.TemplateRecord.{TemplateRecord}
@@ -12,7 +13,6 @@ use Rattle.table.specs.Layout.{limitsOf, entriesAt, recordsAt}
 use Rattle.table.specs.Table.{tableOf, entriesFrom, recordsFrom}
 use Rattle.table.proofs.Facts.{Placed, LegalWords, words-say, places-hold}
 use Rattle.table_entries.specs.Sums.{heldSum}
-use Rattle.table_records.proofs.Frames.{drop-more}
 use Rattle.cache_model.specs.Bodies.{Body, allBodies}
 use Rattle.cache_model.specs.Cache.{done}
 use Rattle.cache_model.specs.Offer.{accepted, offered}

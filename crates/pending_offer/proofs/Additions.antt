@@ -8,6 +8,7 @@ use lib.ListN.{length}
 use borrow.Author.Tests.{lt-ltb, le-ltb}
 use Rattle.config.specs.declared.PendingFlowsConfig.{PendingFlowsConfig}
 use Rattle.config.specs.Limits.{recordWords, entryWords}
+use Rattle.areas.proofs.Puts.{drop-more}
 use Rattle.table.specs.declared.TemplateRecord.{TemplateRecord}
 use Rattle.table.specs.Layout.{entriesAt, recordsAt}
 use Rattle.table.specs.Table.{entriesFrom, recordsFrom, indexFrom}
@@ -16,8 +17,7 @@ use Rattle.table.proofs.Facts.{places-say}
 use Rattle.table_entries.proofs.Frames.{entries-below}
 use Rattle.table_records.specs.Add.{Adds}
 use Rattle.table_records.specs.Choose.{freeLabel}
-use Rattle.table_records.proofs.Frames.{records-above, drop-more}
-use Rattle.pending_calls.proofs.IndexFrames.{index-above}
+use Rattle.table_records.proofs.Frames.{records-above, index-above}
 use Rattle.pending_offer.specs.Room.{MakesRoom, entryOf, StoresBody, RoomFor, AddsBody, chosenLabel}
 use Rattle.pending_offer.proofs.Rooms.{room-made}
 

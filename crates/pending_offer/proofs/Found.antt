@@ -3,29 +3,19 @@ use mathlib.Core.Path.{_≡_, refl, sym, _∙_}
 use mathlib.Core.Bool.{Bool, true, false, cond}
 use mathlib.Core.List.{List, [], _∷_}
 use Prim.Native.Nat.{ℕ}
-use native.Mathlib.Omega.{arith}
 use lib.Dec.{eqb}
-use lib.ListN.{length}
 use borrow.Author.Tests.{eqb-true}
+use Rattle.config.proofs.Lists.{All}
 use Rattle.table.specs.declared.Entry.{Entry}
 use Rattle.table.specs.declared.TemplateRecord.{TemplateRecord}
 use Rattle.table.specs.declared.LabelFound.{LabelFound}
 use Rattle.table.specs.declared.LabelFound.the-variants as Label
 use Rattle.table.specs.Table.{tally}
 use Rattle.table.specs.Reads.{labelOf}
-use Rattle.table.proofs.Facts.{All}
-use Rattle.cache_model.specs.Bodies.{Body, bodiesOf}
+use Rattle.cache_model.specs.Bodies.{bodiesOf}
 use Rattle.pending_flows.specs.View.{bodiesAt, templatesAt}
-use Rattle.pending_flows.proofs.Templates.{length-bodies, bodiesOfLabel, bodies-of-id}
+use Rattle.pending_flows.proofs.Templates.{bodiesOfLabel, bodies-of-id, no-bodies}
 use Rattle.pending_offer.specs.Plan.{labelOr}
-
--- a label without entries has no bodies
-pub no-bodies : (b : List ℕ) (k : ℕ) (es : List Entry) → tally k es ≡ 0 → bodiesAt b k es ≡ []
-no-bodies b k es none = empty (bodiesAt b k es) (length-bodies b k es ∙ none)
-  where
-    empty : (bs : List Body) → length bs ≡ 0 → bs ≡ []
-    empty [] e = refl
-    empty (x ∷ bs) e = absurd (omega arith)
 
 module _ (i : ℕ) where
   -- what holds of each record's key and label holds of the id and its label

@@ -8,6 +8,7 @@ use native.Mathlib.Omega.{arith}
 use lib.Dec.{eqb, ltb}
 use lib.ListN.{length, getD, replicate, length-append, length-replicate, List·getD-eq-default}
 use borrow.Author.Tests.{eqb-true, eq-eqb, ltb-true, ltb-false}
+use Rattle.config.proofs.Lists.{All, all-map, all-both}
 use Rattle.table.specs.declared.Entry.{Entry}
 use Rattle.table.specs.declared.TemplateRecord.{TemplateRecord}
 use Rattle.table.specs.Layout.{limitsOf, heldCount, entryCount, chanceCount, entriesAt, recordsAt}
@@ -15,28 +16,31 @@ use Rattle.table.specs.Table.{tableOf, entriesFrom, recordsFrom, indexFrom, has
 use Rattle.table.specs.WellFormed.{wellFormed}
 use Rattle.table.specs.Reads.{labelOf}
 use Rattle.table.proofs.Words.{length-records}
-use Rattle.table.proofs.Facts.{All, all-map, all-both, LegalRecord, LegalWords, words-say}
+use Rattle.table.proofs.Facts.{LegalRecord, LegalWords, words-say, differ-front}
 use Rattle.table.proofs.Labels.{absent-says, label-says, absent-tally}
 use Rattle.table_entries.proofs.Swept.{all-swept}
+use Rattle.table_entries.proofs.LabelSums.{length-summed, zeros}
 use Rattle.table_records.specs.Choose.{freeLabel}
 use Rattle.table_records.specs.Close.{closed}
 use Rattle.table_records.proofs.FreeLabels.{free-label}
+use Rattle.table_records.proofs.Closed.{closed-all}
 use Rattle.cache_model.specs.Bodies.{Body, size, bodiesOf}
 use Rattle.cache_model.specs.Offer.{settled}
 use Rattle.cache_model.proofs.Thinning.{thinned}
 use Rattle.pending_flows.specs.View.{cacheOf, bodiesAt, templatesAt}
-use Rattle.pending_flows.proofs.Templates.{length-templates}
+use Rattle.pending_flows.proofs.Templates.{length-templates, no-bodies}
 use Rattle.table_view.proofs.Tied.{Tied, none-above, words-tied, entries-small, no-label-tied, tied-apart}
-use Rattle.table_view.proofs.Removed.{everything, length-summed, labelCountsBut, labelCounts, none-set, closed-all}
+use Rattle.table_view.proofs.Removed.{labelCountsBut, labelCounts, none-set}
+use Rattle.table_view.proofs.Summed.{everything}
 use Rattle.pending_calls.specs.declared.removal.Removed.{Removed}
 use Rattle.pending_calls.specs.Removal.{Removes}
-use Rattle.pending_calls.proofs.Removed.{zeros, TiedRowsApart}
+use Rattle.pending_calls.proofs.Removed.{TiedRowsApart}
 use Rattle.pending_offer.specs.declared.plan.OfferPlan.{OfferPlan}
 use Rattle.pending_offer.specs.Plan.{labelOr, planTest, Plans}
 use Rattle.pending_offer.specs.Room.{chosenLabel}
-use Rattle.pending_offer.proofs.PlanLabels.{differ-front, alike, label-alike}
+use Rattle.pending_offer.proofs.PlanLabels.{alike, label-alike}
 use Rattle.pending_offer.proofs.Settled.{outcome, settled-limited}
-use Rattle.pending_offer.proofs.Found.{no-bodies, found-has, found-bodies}
+use Rattle.pending_offer.proofs.Found.{found-has, found-bodies}
 use Rattle.pending_offer.proofs.Left.{staying, held-legal, bodies-left, kept-other, templates-left}
 use Rattle.pending_offer.proofs.Left.{left-rows, left-apart, left-entries, left-records}
 use Rattle.pending_offer.proofs.Outcomes.{leaves, others, leaves-nothing, accepted-held}

@@ -12,19 +12,21 @@ use lib.Seq.{getD-set-other}
 use borrow.Author.Tests.{eq-eqb, ne-eqb}
 use Rattle.config.specs.Limits.{recordWords, wordsNeeded}
 use Rattle.config.proofs.Limits.{cap-small}
+use Rattle.config.proofs.Lists.{All, all-both, all-front, all-back}
+use Rattle.areas.proofs.Puts.{drop-more}
 use Rattle.table.specs.declared.Entry.{Entry}
 use Rattle.table.specs.declared.TemplateRecord.{TemplateRecord}
 use Rattle.table.specs.Layout.{limitsOf, heldCount, entryCount, chanceCount, entriesAt, recordsAt}
 use Rattle.table.specs.Table.{tableOf, entriesFrom, recordsFrom, records, tally}
 use Rattle.table.specs.WellFormed.{wellFormed}
 use Rattle.table.proofs.Words.{length-entries}
-use Rattle.table.proofs.Facts.{All, all-both, Placed, LegalRecord, LegalWords, words-say}
+use Rattle.table.proofs.Facts.{Placed, LegalRecord, LegalWords, words-say}
 use Rattle.table_entries.specs.Sweep.{swept}
 use Rattle.table_entries.proofs.Lengths.{placed-wider}
 use Rattle.table_entries.proofs.Swept.{length-swept, all-swept}
+use Rattle.table_entries.proofs.LabelSums.{zeros}
 use Rattle.table_records.specs.Choose.{skipAll}
 use Rattle.table_records.specs.Close.{closed}
-use Rattle.table_records.proofs.Frames.{drop-more}
 use Rattle.cache_model.specs.Bodies.{Body, Template, size, expired, keep}
 use Rattle.cache_model.proofs.Lists.{length-part}
 use Rattle.cache_model.proofs.Parts.{sub-keep}
@@ -34,14 +36,14 @@ use Rattle.pending_flows.specs.View.{bodiesAt, templatesAt, cacheOf}
 use Rattle.pending_flows.proofs.Templates.{length-bodies}
 use Rattle.table_view.proofs.Swept.{Within, bodyStays, placed-within, swept-bodies, swept-tally}
 use Rattle.table_view.proofs.Closed.{Left, closed-templates, closed-append, closed-none}
-use Rattle.table_view.proofs.Removed.{lenMost, labelCounts, labelCountsBut, label-counts, none-set, placed-short}
+use Rattle.table_view.proofs.Removed.{labelCounts, labelCountsBut, label-counts, none-set, placed-short}
+use Rattle.table_view.proofs.Summed.{lenMost}
 use Rattle.pending_calls.specs.declared.removal.Removed.{Removed}
 use Rattle.pending_calls.specs.Removal.{Removes}
-use Rattle.pending_calls.proofs.Removed.{zeros, TiedRowsApart, placed-left, apart-left, rows-left, rows-tied}
+use Rattle.pending_calls.proofs.Removed.{TiedRowsApart, placed-left, apart-left, rows-left, rows-tied}
 use Rattle.pending_calls.proofs.Removed.{rows-placed, few-templates, few-bodies, total-short}
 use Rattle.pending_offer.specs.declared.plan.OfferPlan.{OfferPlan}
 use Rattle.pending_offer.specs.Plan.{planTest, Plans}
-use Rattle.pending_offer.proofs.PlanLabels.{all-front, all-back}
 
 -- the entries that stay by a plan
 abbrev pub staying : List ℕ → ℕ → List ℕ → OfferPlan → List Entry

@@ -3,19 +3,20 @@
 use mathlib.Core.Path.{_≡_, refl, sym, _∙_}
 use mathlib.Core.Logic.{_≢_}
 use mathlib.Core.Bool.{Bool, true, false, cond}
-use mathlib.Core.List.{List, [], _∷_, _++_}
+use mathlib.Core.List.{List, [], _∷_}
 use Prim.Native.Nat.{ℕ, zero, suc, _<_}
 use native.Mathlib.Omega.{arith}
 use lib.Dec.{eqb}
 use lib.ListN.{take, drop}
 use borrow.Author.Tests.{eqb-true, eq-eqb, ne-eqb}
+use Rattle.config.proofs.Lists.{All, all-both}
 use Rattle.table.specs.declared.Entry.{Entry}
 use Rattle.table.specs.declared.TemplateRecord.{TemplateRecord}
 use Rattle.table.specs.declared.LabelFound.{LabelFound}
 use Rattle.table.specs.declared.LabelFound.the-variants as Label
 use Rattle.table.specs.Table.{hasLabel}
 use Rattle.table.specs.Reads.{labelOf}
-use Rattle.table.proofs.Facts.{All, all-both, Differ}
+use Rattle.table.proofs.Facts.{Differ}
 use Rattle.cache_model.proofs.Thinning.{hasId}
 use Rattle.pending_flows.specs.View.{templatesAt}
 use Rattle.pending_offer.specs.Plan.{labelOr}
@@ -32,24 +33,6 @@ module _ {A : Type 0} (P : A → Type 0) where
   all-drop zero xs a = a
   all-drop (suc n) [] a = tt
   all-drop (suc n) (x ∷ xs) a = all-drop n xs (a .1)
-
-  pub all-front : (xs ys : List A) → All P (xs ++ ys) → All P xs
-  all-front [] ys a = tt
-  all-front (x ∷ xs) ys a = (a .0, all-front xs ys (a .1))
-
-  pub all-back : (xs ys : List A) → All P (xs ++ ys) → All P ys
-  all-back [] ys a = a
-  all-back (x ∷ xs) ys a = all-back xs ys (a .1)
-
-module _ (f : TemplateRecord → ℕ) where
-  pub differ-front : (rs ss : List TemplateRecord) → Differ f (rs ++ ss) → Differ f rs
-  differ-front [] ss d = tt
-  differ-front (r ∷ rs) ss d = (all-front (λ u. f r ≢ f u) rs ss (d .0), differ-front rs ss (d .1))
-
-  -- none of the front is one of the back
-  pub differ-apart : (rs ss : List TemplateRecord) → Differ f (rs ++ ss) → All (λ r. All (λ u. f r ≢ f u) ss) rs
-  differ-apart [] ss d = tt
-  differ-apart (r ∷ rs) ss d = (all-back (λ u. f r ≢ f u) rs ss (d .0), differ-apart rs ss (d .1))
 
 -- ---- labels and keys
 

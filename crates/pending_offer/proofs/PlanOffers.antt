@@ -13,12 +13,12 @@ use Rattle.table.specs.Table.{tableOf, entriesFrom, recordsFrom}
 use Rattle.table.specs.WellFormed.{wellFormed}
 use Rattle.table.specs.Reads.{labelOf}
 use Rattle.table.proofs.Facts.{LegalWords, words-say}
+use Rattle.table_entries.proofs.LabelSums.{zeros}
 use Rattle.table_records.specs.Choose.{skipping}
 use Rattle.cache_model.specs.Removal.{evictions}
 use Rattle.pending_flows.specs.declared.header.HeaderFigures.{HeaderFigures}
 use Rattle.pending_flows.specs.Header.{figuresAt}
 use Rattle.pending_flows.specs.View.{cacheOf}
-use Rattle.table_view.proofs.Summed.{zeros}
 use Rattle.pending_offer.specs.declared.plan.Decision.{Decision}
 use Rattle.pending_offer.specs.Plan.{liveSums, labelOr, Decides, Plans}
 use Rattle.pending_offer.proofs.PlanTables.{evicted-few, held-are, handed-are, leaving-are, stay-are}

@@ -1,19 +1,20 @@
 -- What an offer reads off the records, with the bytes or the live bodies of each label beside them, is what the model
 -- reads off their templates. Assumes nothing.
-use mathlib.Core.Path.{_≡_, refl, sym}
+use mathlib.Core.Path.{_≡_, refl}
 use mathlib.Core.Bool.{Bool, true, false, cond}
 use mathlib.Core.List.{List, [], _∷_}
 use Prim.Native.Nat.{ℕ, _+_, _-_, _≤_, _<_}
 use native.Mathlib.Omega.{arith}
 use lib.Dec.{eqb, leb, ltb}
 use lib.ListN.{length, getD}
-use borrow.Author.Tests.{ltb-true, ltb-false, leb-true, leb-false, lt-ltb, le-ltb, le-leb, lt-leb}
+use borrow.Author.Tests.{ltb-true, leb-true, lt-ltb, le-ltb, le-leb}
+use Rattle.config.proofs.Lists.{All}
+use Rattle.config.proofs.Tests.{same-test}
 use Rattle.table.specs.declared.Entry.{Entry}
 use Rattle.table.specs.declared.TemplateRecord.{TemplateRecord}
 use Rattle.table.specs.declared.LabelFound.{LabelFound}
 use Rattle.table.specs.declared.LabelFound.the-variants as Label
 use Rattle.table.specs.Reads.{labelOf}
-use Rattle.table.proofs.Facts.{All}
 use Rattle.table_records.specs.Choose.{evictionsOf, liveRecords, firstLive}
 use Rattle.cache_model.specs.Bodies.{Body, Template, size, sumBodies, sumTemplates, keep, bodiesOf, without}
 use Rattle.cache_model.specs.Bodies.{unlessEmpty}
@@ -22,11 +23,6 @@ use Rattle.cache_model.proofs.Thinning.{firstId}
 use Rattle.pending_flows.specs.View.{bodiesAt, templateAt, templatesAt}
 use Rattle.pending_flows.proofs.Templates.{length-templates}
 use Rattle.pending_offer.specs.Plan.{liveAt, othersFill}
-
--- two tests with the same outcomes
-pub same-tests : (p q : Bool) → (p ≡ true → q ≡ true) → (p ≡ false → q ≡ false) → p ≡ q
-same-tests true q f g = sym (f refl)
-same-tests false q f g = sym (g refl)
 
 module _ (b : List ℕ) (es : List Entry) where
   -- `sizes` has the bytes of these records' bodies
@@ -49,9 +45,9 @@ module _ (b : List ℕ) (es : List Entry) where
 
       test : ltb (most - more) total ≡ ltb most (all + more)
       test =
-          same-tests (ltb (most - more) total) (ltb most (all + more))
+          same-test (ltb (most - more) total) (ltb most (all + more))
           (λ e. lt-ltb most (all + more) (omega (arith, ltb-true (most - more) total e)))
-          (λ e. le-ltb most (all + more) (omega (arith, ltb-false (most - more) total e)))
+          (λ e. lt-ltb (most - more) total (omega (arith, ltb-true most (all + more) e)))
 
   -- none where there is room
   pub none-evicted : (most more : ℕ) (rs : List TemplateRecord) → more ≤ most →
@@ -145,10 +141,10 @@ module _ (b : List ℕ) (es : List Entry) where
 
       by-found : (x : LabelFound) → length rs ≡ others + foundOne x → othersFill x (length rs) most ≡ leb most others
       by-found (Label.At k) e =
-          same-tests (ltb most (length rs)) (leb most others)
+          same-test (ltb most (length rs)) (leb most others)
           (λ t. le-leb most others (omega (arith, ltb-true most (length rs) t)))
-          (λ t. lt-leb most others (omega (arith, ltb-false most (length rs) t)))
+          (λ t. lt-ltb most (length rs) (omega (arith, leb-true most others t)))
       by-found Label.Nothing e =
-          same-tests (leb most (length rs)) (leb most others)
+          same-test (leb most (length rs)) (leb most others)
           (λ t. le-leb most others (omega (arith, leb-true most (length rs) t)))
-          (λ t. lt-leb most others (omega (arith, leb-false most (length rs) t)))
+          (λ t. le-leb most (length rs) (omega (arith, leb-true most others t)))

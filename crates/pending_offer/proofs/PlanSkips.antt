@@ -3,21 +3,20 @@
 use mathlib.Core.Path.{_≡_, refl, sym, ap, _∙_}
 use mathlib.Core.Logic.{_≢_}
 use mathlib.Core.Bool.{Bool, true, false, _&&_, cond}
-use mathlib.Core.List.{List, [], _∷_}
+use mathlib.Core.List.{List}
 use Prim.Native.Nat.{ℕ, _<_}
 use native.Mathlib.Omega.{arith}
 use lib.Dec.{eqb}
 use lib.ListN.{length, getD, set, length-set, length-replicate, getD-replicate}
 use lib.Seq.{getD-set-same, getD-set-other}
-use borrow.Author.Tests.{eqb-true, eqb-false, eq-eqb}
+use borrow.Author.Tests.{eqb-true, eqb-false}
+use Rattle.config.proofs.Lists.{All, all-both}
 use Rattle.table.specs.declared.TemplateRecord.{TemplateRecord}
 use Rattle.table.specs.Table.{hasLabel}
-use Rattle.table.proofs.Facts.{All, all-map, all-both}
-use Rattle.table.proofs.Labels.{absent-holds}
+use Rattle.table.proofs.Labels.{absent-holds, own-labels}
+use Rattle.table_entries.proofs.LabelSums.{zeros}
 use Rattle.table_records.specs.Choose.{skipAll, skipping}
 use Rattle.table_records.proofs.Skips.{length-skipping, skipping-at}
-use Rattle.table_view.proofs.Tied.{or-second}
-use Rattle.table_view.proofs.Summed.{zeros}
 
 -- one label more, or not
 abbrev pub skippingOne : Bool → ℕ → List ℕ → List ℕ
@@ -79,12 +78,4 @@ module _ (leaving handed : List TemplateRecord) (t : Bool) (label : ℕ) where
   pub all-handed-skipped : All (λ u. u .label < 1024) handed → All (λ u. getD skipped (u .label) 0 ≡ skipAll) handed
   all-handed-skipped small =
       all-both (λ u. u .label < 1024) (λ u. hasLabel (u .label) handed ≡ true)
-      (λ u. getD skipped (u .label) 0 ≡ skipAll) (λ u s h. handed-skipped (u .label) s h) handed small (each handed)
-    where
-      each : (rs : List TemplateRecord) → All (λ u. hasLabel (u .label) rs ≡ true) rs
-      each [] = tt
-      each (r ∷ rs) = (
-        rw (eq-eqb (r .label) (r .label) refl),
-        all-map (λ u. hasLabel (u .label) rs ≡ true) (λ u. hasLabel (u .label) (r ∷ rs) ≡ true)
-            (λ u h. or-second (eqb (u .label) (r .label)) (hasLabel (u .label) rs) h) rs (each rs),
-      )
+      (λ u. getD skipped (u .label) 0 ≡ skipAll) (λ u s h. handed-skipped (u .label) s h) handed small (own-labels handed)

@@ -21,13 +21,13 @@ use Rattle.table.specs.Reads.{labelOf}
 use Rattle.table.proofs.Words.{length-records}
 use Rattle.table_entries.specs.declared.StayTest.{StayTest}
 use Rattle.table_entries.specs.Sums.{summed}
+use Rattle.table_entries.proofs.LabelSums.{zeros}
 use Rattle.table_records.specs.Choose.{skipAll, evictionsOf, liveRecords, firstLive}
 use Rattle.cache_model.specs.Removal.{evictions}
 use Rattle.pending_flows.specs.declared.header.HeaderFigures.{HeaderFigures}
 use Rattle.pending_flows.specs.Header.{figuresAt}
 use Rattle.pending_flows.specs.View.{cacheOf}
 use Rattle.pending_flows.proofs.Questions as Questions
-use Rattle.table_view.proofs.Summed.{zeros}
 use Rattle.pending_offer.specs.declared.plan.Decision.{Decision}
 use Rattle.pending_offer.specs.Plan.{liveTest, liveSums, labelOr, liveAt, othersFill, Decides}
 use Rattle.pending_offer.proofs.PlanReads.{evictions-read, none-evicted}

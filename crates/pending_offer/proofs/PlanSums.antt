@@ -1,23 +1,27 @@
 -- The sums by label that an offer takes: the bytes of each label's bodies, and its live bodies. Assumes nothing.
-use mathlib.Core.Path.{_≡_, refl, ap, _∙_}
-use mathlib.Core.Bool.{Bool, true, false, not, _&&_, _||_, cond}
+use mathlib.Core.Path.{_≡_, ap, _∙_}
+use mathlib.Core.Bool.{Bool, true, false, not, _&&_, _||_, and-true}
 use mathlib.Core.List.{List, [], _∷_}
 use Prim.Native.Nat.{ℕ, zero, suc, _≤_, _<_}
 use native.Mathlib.Omega.{arith}
-use lib.Dec.{eqb, leb}
+use lib.Dec.{eqb}
 use lib.ListN.{length, getD, drop}
 use lib.Seq.{drop-nil}
 use borrow.Author.Tests.{le-leb}
 use Rattle.config.specs.declared.Ttl.{Ttl}
 use Rattle.config.specs.declared.Ttl.the-variants.{None}
+use Rattle.config.proofs.Lists.{All, all-both}
 use Rattle.table.specs.declared.Entry.{Entry}
-use Rattle.table.proofs.Facts.{All, Placed}
+use Rattle.table.proofs.Facts.{Placed}
 use Rattle.table_entries.specs.declared.StayTest.{StayTest}
 use Rattle.table_entries.specs.Sums.{sumMost, summed}
+use Rattle.table_entries.proofs.LabelSums.{zeros, summed-label}
+use Rattle.table_entries.proofs.Lengths.{label-bytes-most, label-count-most}
 use Rattle.cache_model.specs.Bodies.{Body, size, sumBodies, expired, keep}
+use Rattle.cache_model.proofs.Weights.{keep-true}
 use Rattle.pending_flows.specs.View.{bodyAt, bodiesAt}
-use Rattle.table_view.proofs.Swept.{bodyStays, Within, body-size}
-use Rattle.table_view.proofs.Summed.{zeros, zeros-label, label-bytes, label-bytes-most, label-count, label-count-most}
+use Rattle.table_view.proofs.Swept.{bodyStays, Within, body-size, keep-alike}
+use Rattle.table_view.proofs.Summed.{label-bytes, label-count}
 use Rattle.table_view.proofs.Summed.{summed-count}
 use Rattle.pending_offer.specs.Plan.{liveTest}
 
@@ -25,32 +29,15 @@ use Rattle.pending_offer.specs.Plan.{liveTest}
 abbrev pub unaged : StayTest → ℕ → Body → Bool
 unaged q k x = not ((q .all || eqb (q .label) k) && expired (q .ttl) (q .clock) x)
 
-keep-true : (bs : List Body) → keep (λ x. true) bs ≡ bs
-keep-true [] = refl
-keep-true (x ∷ xs) = ap (λ (ys : List Body). x ∷ ys) (keep-true xs)
-
-and-true : (s t : Bool) → t ≡ true → s && t ≡ s
-and-true true t e = e
-and-true false t e = refl
-
 module _ (b : List ℕ) (k : ℕ) where
   -- where no body is too large, only expired ones go
   pub keep-unaged : (q : StayTest) (es : List Entry) → Within (length b) es → All (λ e. e .len ≤ q .«max_size») es →
       keep (bodyStays q k) (bodiesAt b k es) ≡ keep (unaged q k) (bodiesAt b k es)
   unfolding bodyStays
-  keep-unaged q [] h s = refl
-  keep-unaged q (e ∷ es) h s = by-label (eqb k (e .label)) (keep-unaged q es (h .1) (s .1))
-    where
-      same : bodyStays q k (bodyAt b e) ≡ unaged q k (bodyAt b e)
-      same =
-          and-true (unaged q k (bodyAt b e)) (leb (size (bodyAt b e)) (q .«max_size»))
-          (le-leb (size (bodyAt b e)) (q .«max_size») (omega (arith, s .0, body-size b e (h .0))))
-
-      by-label : (t : Bool) → keep (bodyStays q k) (bodiesAt b k es) ≡ keep (unaged q k) (bodiesAt b k es) →
-          keep (bodyStays q k) (cond t (bodyAt b e ∷ bodiesAt b k es) (bodiesAt b k es))
-          ≡ keep (unaged q k) (cond t (bodyAt b e ∷ bodiesAt b k es) (bodiesAt b k es))
-      by-label true ih = rw (same, ih)
-      by-label false ih = ih
+  keep-unaged q es h s =
+      keep-alike b (bodyStays q k) (unaged q k) k es
+      (all-both _ _ (λ e. bodyStays q k (bodyAt b e) ≡ unaged q k (bodyAt b e))
+      (λ e x y. rw (body-size b e x, le-leb (e .len) (q .«max_size») y) (and-true (unaged q k (bodyAt b e)))) es h s)
 
   -- nothing is left where as many are skipped as there are entries
   pub all-skipped : (q : StayTest) (n : ℕ) (es : List Entry) → Within (length b) es → length es ≤ n →
@@ -74,7 +61,7 @@ module _ (b : List ℕ) (k : ℕ) where
         let all = ap (sumBodies size) (keep-unaged q es within short ∙ keep-true (bodiesAt b k es)) in
         omega (
           arith,
-          zeros-label q true k es small,
+          summed-label q true es k small,
           label-bytes b q k es within,
           label-bytes-most q k 0 most es (omega arith) p,
         )

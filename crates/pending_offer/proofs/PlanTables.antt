@@ -9,14 +9,16 @@ use lib.Dec.{ltb}
 use lib.ListN.{length, take, drop}
 use Rattle.config.specs.declared.Ttl.the-variants.{None}
 use Rattle.config.specs.Limits.{recordWords}
+use Rattle.config.proofs.Lists.{All, all-map, all-front}
 use Rattle.table.specs.declared.Entry.{Entry}
 use Rattle.table.specs.declared.TemplateRecord.{TemplateRecord}
 use Rattle.table.specs.Layout.{limitsOf, totalWord, heldCount, entryCount, chanceCount, entriesAt, recordsAt}
 use Rattle.table.specs.Table.{tableOf, index, recordsFrom}
 use Rattle.table.specs.WellFormed.{wellFormed}
 use Rattle.table.proofs.Words.{length-entries, length-records, records-behind}
-use Rattle.table.proofs.Facts.{All, all-map, LegalWords, words-say}
+use Rattle.table.proofs.Facts.{LegalWords, words-say, differ-front}
 use Rattle.table_entries.specs.Sums.{summed}
+use Rattle.table_entries.proofs.LabelSums.{zeros}
 use Rattle.cache_model.specs.Bodies.{Template, size, sumTemplates, expired}
 use Rattle.cache_model.specs.Removal.{evictions}
 use Rattle.pending_flows.specs.View.{templatesAt}
@@ -24,12 +26,10 @@ use Rattle.pending_flows.proofs.Templates.{length-templates}
 use Rattle.pending_flows.proofs.Questions.{first-records}
 use Rattle.table_view.proofs.Tied.{Tied, words-tied}
 use Rattle.table_view.proofs.Swept.{Within, placed-within}
-use Rattle.table_view.proofs.Summed.{zeros}
 use Rattle.table_view.proofs.Removed.{placed-short}
 use Rattle.table_view.proofs.Totals.{lens-total}
 use Rattle.pending_offer.specs.Plan.{liveTest}
 use Rattle.pending_offer.proofs.PlanReads.{Sized, Counted}
-use Rattle.pending_offer.proofs.PlanLabels.{all-front, differ-front}
 use Rattle.pending_offer.proofs.PlanSums.{sizes-summed, live-summed}
 
 -- no more templates go than there are

@@ -9,32 +9,33 @@ use lib.Dec.{eqb, leb, ltb}
 use lib.ListN.{length, getD, take, drop}
 use borrow.Author.Tests.{leb-true}
 use Rattle.config.specs.declared.PendingFlowsConfig.{PendingFlowsConfig}
+use Rattle.config.proofs.Tests.{and-right}
+use Rattle.config.proofs.Lists.{All, all-map, all-back}
 use Rattle.table.specs.declared.Entry.{Entry}
 use Rattle.table.specs.declared.TemplateRecord.{TemplateRecord}
 use Rattle.table.specs.Layout.{limitsOf}
 use Rattle.table.specs.Table.{tableOf, index}
 use Rattle.table.specs.WellFormed.{wellFormed}
 use Rattle.table.specs.Reads.{labelOf}
-use Rattle.table.proofs.Facts.{All, all-map}
+use Rattle.table.proofs.Facts.{differ-front, differ-across}
 use Rattle.table_entries.specs.declared.StayTest.{StayTest}
 use Rattle.table_entries.specs.Sums.{summed}
+use Rattle.table_entries.proofs.LabelSums.{zeros}
 use Rattle.table_records.specs.Choose.{skipAll, skipping, liveRecords, firstLive}
 use Rattle.cache_model.specs.Bodies.{Body, Template, size, keep, bodiesOf, without, expired}
 use Rattle.cache_model.specs.Removal.{evictions, keptOf}
 use Rattle.cache_model.specs.Offer.{accepted, refused}
-use Rattle.cache_model.proofs.Choices.{and-right}
 use Rattle.cache_model.proofs.Thinning.{hasId, firstId}
 use Rattle.cache_model.proofs.Plans.{Plan, planOf, plan, thinBy, thin}
 use Rattle.pending_flows.specs.View.{bodiesAt, templatesAt}
 use Rattle.table_view.proofs.Tied.{Tied}
 use Rattle.table_view.proofs.Swept.{bodyStays}
-use Rattle.table_view.proofs.Summed.{zeros}
 use Rattle.table_view.proofs.Closed.{templates-take, templates-drop}
 use Rattle.pending_offer.specs.declared.plan.OfferPlan.{OfferPlan}
 use Rattle.pending_offer.specs.declared.plan.Decision.{Decision}
 use Rattle.pending_offer.specs.Plan.{liveTest, labelOr, liveAt, Decides, planTest, Plans}
 use Rattle.pending_offer.proofs.PlanReads.{Counted, here-read, others-read, alive-read, first-read}
-use Rattle.pending_offer.proofs.PlanLabels.{all-take, all-drop, all-back, differ-front, differ-apart, Alike}
+use Rattle.pending_offer.proofs.PlanLabels.{all-take, all-drop, Alike}
 use Rattle.pending_offer.proofs.PlanLabels.{alike, has-alike, label-alike}
 use Rattle.pending_offer.proofs.PlanSums.{keep-unaged, all-skipped}
 use Rattle.pending_offer.proofs.PlanSkips.{skipped, skipped-long, held-skipped, all-handed-skipped}
@@ -208,7 +209,7 @@ module _ (w b : List ℕ) (id len clock : ℕ) where
 
       held-told : All Told held
       held-told =
-          each held (labels-small w b ok) (differ-apart (λ r. r .label) held (tableOf w .handed) (tied .labels-differ))
+          each held (labels-small w b ok) (differ-across (λ r. r .label) held (tableOf w .handed) (tied .labels-differ))
           known (rw labelled (label-alike id held known (labels-small w b ok)))
         where
           tied : Tied (held ++ tableOf w .handed) es (index w)
@@ -241,13 +242,3 @@ module _ (w b : List ℕ) (id len clock : ℕ) where
                 (all-back (λ u. u .label < 1024) held handed (rows w b ok .labels-small)));
             long = rw (decided .skips) (skipped-long leaving handed goes first);
           }
-
--- nothing of what is handed out stays, whatever the test
-pub chance-skipped : (w b : List ℕ) → wellFormed w (length b) ≡ true → {id len clock : ℕ} {skip′ : List ℕ}
-    {r : OfferPlan} → Plans w b id len clock skip′ r → (q : StayTest) →
-    All (λ u. drop (getD skip′ (u .label) 0) (keep (bodyStays q (u .label)) (bodiesAt b (u .label)
-    (tableOf w .entries))) ≡ []) (tableOf w .handed)
-chance-skipped w b ok p q =
-    all-map _ _
-    (λ u e. rw e (all-skipped b (u .label) q skipAll (tableOf w .entries) (within w b ok) (entries-few w b ok)))
-    (tableOf w .handed) (p .ends-chance)

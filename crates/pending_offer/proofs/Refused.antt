@@ -10,12 +10,14 @@ use borrow.Author.Tests.{ne-eqb}
 use Rattle.areas.specs.Overwrite.{overwritten}
 use Rattle.config.specs.declared.PendingFlowsConfig.{PendingFlowsConfig}
 use Rattle.config.specs.Limits.{entryWords}
+use Rattle.config.proofs.Lists.{all-both}
 use Rattle.table.specs.Layout.{limitsOf, heldCount, entryCount, chanceCount, entriesAt, recordsAt}
 use Rattle.table.specs.Table.{tableOf, entriesFrom, recordsFrom}
 use Rattle.table.specs.WellFormed.{wellFormed}
 use Rattle.table.proofs.Words.{length-entries}
-use Rattle.table.proofs.Facts.{all-both, Placed, LegalRecord, LegalWords, words-say}
+use Rattle.table.proofs.Facts.{Placed, LegalRecord, LegalWords, words-say}
 use Rattle.table_entries.specs.Sums.{heldSum}
+use Rattle.table_entries.proofs.LabelSums.{zeros}
 use Rattle.cache_model.specs.Bodies.{Body, allBodies}
 use Rattle.cache_model.specs.Cache.{number}
 use Rattle.cache_model.specs.Offer.{refused, offered}
@@ -26,7 +28,7 @@ use Rattle.table_view.proofs.Tied.{no-label-tied}
 use Rattle.pending_calls.specs.declared.removal.Removed.{Removed}
 use Rattle.pending_calls.specs.Promises.{Does}
 use Rattle.pending_calls.specs.Removal.{Removes}
-use Rattle.pending_calls.proofs.Removed.{zeros, TiedRows}
+use Rattle.pending_calls.proofs.Removed.{TiedRows}
 use Rattle.pending_offer.specs.declared.plan.OfferPlan.{OfferPlan}
 use Rattle.pending_offer.specs.Promises.{bodyOf}
 use Rattle.pending_offer.specs.Plan.{planTest, Plans}

@@ -16,22 +16,16 @@ use Rattle.table.proofs.Facts.{Placed, places-say, places-hold}
 use Rattle.table.proofs.Counted.{labelsOf}
 use Rattle.table_entries.specs.Pack.{lastEnd, packedEntries, packedEnd, packedBytes, Packs}
 use Rattle.table_entries.specs.Sweep.{putEntry}
-use Rattle.table_entries.proofs.Lengths.{placed-wider, first-end-within}
+use Rattle.table_entries.proofs.Lengths.{placed-wider, first-end-within, last-within}
 use Rattle.table_entries.proofs.Frames.{entries-below, entries-more, take-put, drop-put, entry-put}
+use Rattle.table_entries.proofs.Packed.{packed-placed}
 use Rattle.pending_flows.specs.View.{bodiesAt}
-use Rattle.table_view.proofs.Packed.{packed-placed, packed-long, packed-bodies, packed-drop}
+use Rattle.table_view.proofs.Packed.{packed-long, packed-bodies, packed-drop}
 use Rattle.pending_offer.specs.Room.{fitsBehind, roomEntries, roomBytes, roomPlace, MakesRoom, StoresBody}
-
--- the last body ends within the room
-pub last-within : (from most : ℕ) (es : List Entry) → from ≤ most → Placed from most es → lastEnd es ≤ most
-unfolding lastEnd
-last-within from most [] h p = omega arith
-last-within from most (e ∷ []) h p = p .1
-last-within from most (e ∷ x ∷ es) h p = last-within (e .place + e .len) most (x ∷ es) (p .1) (p .2)
 
 module _ (most : ℕ) (es : List Entry) (legal : placesLegal 0 most es ≡ true) where
   last-legal : lastEnd es ≤ most
-  last-legal = last-within 0 most es (omega arith) (places-say 0 most es legal)
+  last-legal = last-within 0 most es (places-say 0 most es legal)
 
   pub last-small : most ≤ 67108864 → lastEnd es ≤ 18446744073709551615
   last-small small = omega (arith, last-legal)
@@ -125,7 +119,7 @@ room-made len most es b p lent room = by-test (fitsBehind len most es) refl
     by-test false e = record {
       same-labels = packed-labels 0 es;
       same-bodies = λ k. packed-bodies k 0 0 es b (omega arith) wide;
-      placed = packed-placed 0 es;
+      placed = packed-placed 0 (packedEnd 0 es) es (omega arith);
       fits = room;
       long = packed-long 0 0 es b (omega arith) wide;
       behind = packed-drop 0 0 most es b (omega arith) p;

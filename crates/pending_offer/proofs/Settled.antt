@@ -12,17 +12,18 @@ use Rattle.areas.specs.Overwrite.{overwritten}
 use Rattle.config.specs.declared.PendingFlowsConfig.{PendingFlowsConfig}
 use Rattle.config.specs.Limits.{wordsNeeded}
 use Rattle.config.proofs.Limits as Config
+use Rattle.config.proofs.Lists.{all-map}
 use Rattle.table.specs.declared.Entry.{Entry}
 use Rattle.table.specs.declared.TemplateRecord.{TemplateRecord}
 use Rattle.table.specs.Layout.{limitsOf, cachedWord, droppedWord, entriesAt, recordsAt}
 use Rattle.table.specs.Table.{tableOf, entriesFrom, recordsFrom, indexFrom, hasLabel, sumLens}
 use Rattle.table.specs.WellFormed.{wellFormed}
 use Rattle.table.proofs.Words.{length-records}
-use Rattle.table.proofs.Facts.{all-map, Placed, LegalWords, words-say}
+use Rattle.table.proofs.Facts.{Placed, LegalWords, words-say}
 use Rattle.table_entries.specs.Sums.{heldSum}
 use Rattle.table_entries.proofs.Frames.{entries-above}
 use Rattle.table_entries.proofs.Lengths.{held-all, lens-within}
-use Rattle.table_records.proofs.Frames.{records-above}
+use Rattle.table_records.proofs.Frames.{records-above, index-above}
 use Rattle.cache_model.specs.Bodies.{Body, Template, size, expired, allBodies}
 use Rattle.cache_model.specs.Cache.{Cache, Outcome, raised}
 use Rattle.cache_model.specs.Offer.{Verdict, Offered, acceptedBodies, refusalDrops, verdictAnswer, steps2to5}
@@ -39,7 +40,6 @@ use Rattle.table_view.proofs.Totals.{held-sum-lens}
 use Rattle.table_view.proofs.Stored.{Stored, tableWith, legal-limited, stored-view}
 use Rattle.pending_calls.specs.Promises.{Does}
 use Rattle.pending_calls.proofs.Headers.{headed, headed-limits, headed-flag, headed-length, headed-behind}
-use Rattle.pending_calls.proofs.IndexFrames.{index-above}
 use Rattle.pending_calls.proofs.Removed.{TiedRows}
 use Rattle.pending_offer.specs.Settle.{settledFigures}
 

@@ -16,7 +16,7 @@ use Rattle.table.specs.Table.{tableOf, records, index}
 use Rattle.table.specs.WellFormed.{wellFormed}
 use Rattle.table.proofs.Facts.{LegalWords, words-say}
 use Rattle.table_entries.proofs.Frames.{entries-above}
-use Rattle.table_records.proofs.Frames.{word-other, word-same, records-above}
+use Rattle.table_records.proofs.Frames.{word-other, word-same, records-above, index-above}
 use Rattle.cache_model.specs.Bodies.{Body, size}
 use Rattle.cache_model.specs.Cache.{Outcome, number, raised}
 use Rattle.cache_model.specs.Offer.{refusedSize, offered}
@@ -24,7 +24,6 @@ use Rattle.cache_model.proofs.Calls.{refused-size-within}
 use Rattle.pending_flows.specs.View.{areasOf, cacheOf, view}
 use Rattle.table_view.proofs.Stored.{Stored, legal-limited, stored-view}
 use Rattle.pending_calls.specs.Promises.{Does}
-use Rattle.pending_calls.proofs.IndexFrames.{index-above}
 use Rattle.pending_calls.proofs.Removed.{rows-tied, rows-placed}
 
 module _ (w b : List ℕ) (ok : wellFormed w (length b) ≡ true) where

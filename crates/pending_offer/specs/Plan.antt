@@ -3,11 +3,12 @@
 use mathlib.Core.Path.{_≡_}
 use mathlib.Core.List.{List}
 use mathlib.Core.Bool.{Bool, true, false, not, _&&_, cond}
-use Prim.Native.Nat.{ℕ, _-_}
+use Prim.Native.Nat.{ℕ}
 use lib.Dec.{leb, ltb}
 use lib.ListN.{length, getD, set, drop, replicate}
 use Rattle.config.specs.declared.Ttl.{Ttl}
 use Rattle.config.specs.declared.PendingFlowsConfig.{PendingFlowsConfig}
+use Rattle.config.proofs.Lists.{All}
 use Rattle.table.specs.declared.Entry.{Entry}
 use Rattle.table.specs.declared.TemplateRecord.{TemplateRecord}
 use Rattle.table.specs.declared.LabelFound.{LabelFound}
@@ -15,7 +16,6 @@ use Rattle.table.specs.declared.LabelFound.the-variants as Label
 use Rattle.table.specs.Layout.{limitsOf}
 use Rattle.table.specs.Table.{tableOf}
 use Rattle.table.specs.Reads.{labelOf}
-use Rattle.table.proofs.Facts.{All}
 use Rattle.table_entries.specs.declared.StayTest.{StayTest}
 use Rattle.table_entries.specs.Sums.{summed}
 use Rattle.table_records.specs.Choose.{skipAll, liveRecords, firstLive}

@@ -2,57 +2,25 @@
 use mathlib.Core.Path.{_≡_, refl, sym}
 use mathlib.Core.Logic.{_≢_}
 use mathlib.Core.Bool.{Bool, true, false, not, _&&_}
-use mathlib.Core.List.{List, [], _∷_, _++_}
+use mathlib.Core.List.{List, [], _∷_}
 use Prim.Native.Nat.{ℕ, zero, suc, _+_, _-_}
 use native.Mathlib.Omega.{arith}
 use lib.Dec.{eqb, leb}
 use lib.ListN.{getD, take}
 use borrow.Author.Tests.{eq-eqb, ne-eqb}
 use Rattle.config.specs.declared.PendingFlowsConfig.{PendingFlowsConfig}
+use Rattle.config.proofs.Lists.{All, all-map, all-both}
 use Rattle.table.specs.declared.Entry.{Entry}
 use Rattle.table.specs.declared.TemplateRecord.{TemplateRecord}
 use Rattle.table.specs.Table.{hasLabel}
-use Rattle.table.proofs.Facts.{All, all-map, all-both, Differ}
-use Rattle.table.proofs.Labels.{absent-holds}
+use Rattle.table.proofs.Facts.{Differ}
 use Rattle.table_records.specs.Choose.{evictionsOf}
 use Rattle.cache_model.specs.Bodies.{Body, size, sumBodies, byteTotal, keep}
 use Rattle.cache_model.specs.Removal.{evictions}
-use Rattle.cache_model.proofs.Parts as Parts
 use Rattle.cache_model.proofs.Thinning.{hasId}
 use Rattle.pending_flows.specs.View.{bodiesAt, templatesAt}
-use Rattle.table_view.proofs.Tied.{or-second}
 use Rattle.table_view.proofs.Swept.{bodyStays}
 use Rattle.pending_resize.specs.Cut.{smallEnough}
-
--- ---- lists of records
-
-pub all-front : {A : Type 0} (P : A → Type 0) (xs ys : List A) → All P (xs ++ ys) → All P xs
-all-front P [] ys a = tt
-all-front P (x ∷ xs) ys a = (a .0, all-front P xs ys (a .1))
-
-pub all-back : {A : Type 0} (P : A → Type 0) (xs ys : List A) → All P (xs ++ ys) → All P ys
-all-back P [] ys a = a
-all-back P (x ∷ xs) ys a = all-back P xs ys (a .1)
-
-pub differ-front : (f : TemplateRecord → ℕ) (xs ys : List TemplateRecord) → Differ f (xs ++ ys) → Differ f xs
-differ-front f [] ys d = tt
-differ-front f (x ∷ xs) ys d = (all-front _ xs ys (d .0), differ-front f xs ys (d .1))
-
--- each record's label is a label of the records
-pub own-labels : (rs : List TemplateRecord) → All (λ r. hasLabel (r .label) rs ≡ true) rs
-own-labels [] = tt
-own-labels (r ∷ rs) = (
-  rw (eq-eqb (r .label) (r .label) refl),
-  all-map (λ u. hasLabel (u .label) rs ≡ true) (λ u. hasLabel (u .label) (r ∷ rs) ≡ true)
-      (λ u h. or-second (eqb (u .label) (r .label)) (hasLabel (u .label) rs) h) rs (own-labels rs),
-)
-
--- and of no record behind them
-pub labels-apart : (xs ys : List TemplateRecord) → Differ (λ r. r .label) (xs ++ ys) →
-    All (λ r. hasLabel (r .label) ys ≡ false) xs
-labels-apart [] ys d = tt
-labels-apart (x ∷ xs) ys d =
-    (absent-holds (x .label) ys (all-back (λ u. x .label ≢ u .label) xs ys (d .0)), labels-apart xs ys (d .1))
 
 -- ---- the first templates, by label or by id
 
@@ -80,14 +48,6 @@ module _ (b : List ℕ) (es : List Entry) where
           FirstAlike (suc i) (r ∷ rs) u
       later u d h =
           rw (ne-eqb (u .label) (r .label) (λ e. d .1 (sym e)), ne-eqb (u .key) (r .key) (λ e. d .0 (sym e))) h
-
-  ids-other : (k : ℕ) (rs : List TemplateRecord) → All (λ r. k ≢ r .key) rs → Parts.Absent k (templatesAt b es rs)
-  ids-other k [] a = tt
-  ids-other k (r ∷ rs) a = (a .0, ids-other k rs (a .1))
-
-  pub ids-differ : (rs : List TemplateRecord) → Differ (λ r. r .key) rs → Parts.Differ (templatesAt b es rs)
-  ids-differ [] d = tt
-  ids-differ (r ∷ rs) d = (ids-other (r .key) rs (d .0), ids-differ rs (d .1))
 
   -- how many go until the total fits
   pub evictions-alike : (room : ℕ) (sizes : List ℕ) (rs : List TemplateRecord) (total : ℕ) →

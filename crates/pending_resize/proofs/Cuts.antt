@@ -7,16 +7,18 @@ use native.Mathlib.Omega.{arith}
 use lib.ListN.{length, getD, take, drop, length-replicate, length-drop, drop-of-length-le}
 use Rattle.config.specs.declared.PendingFlowsConfig.{PendingFlowsConfig}
 use Rattle.config.specs.Limits.{recordWords}
+use Rattle.config.proofs.Lists.{All, all-both, all-front, all-back}
 use Rattle.table.specs.declared.Entry.{Entry}
 use Rattle.table.specs.declared.TemplateRecord.{TemplateRecord}
 use Rattle.table.specs.Layout.{entriesAt}
 use Rattle.table.specs.Table.{entriesFrom, recordsFrom, hasLabel}
 use Rattle.table.proofs.Words.{length-entries}
-use Rattle.table.proofs.Facts.{All, all-both, Differ}
+use Rattle.table.proofs.Facts.{Differ, differ-front}
+use Rattle.table.proofs.Labels.{own-labels, labels-apart}
 use Rattle.table_entries.specs.declared.StayTest.{StayTest}
 use Rattle.table_entries.specs.Sums.{summed}
 use Rattle.table_entries.specs.Sweep.{swept}
-use Rattle.table_entries.proofs.Lengths.{placed-wider}
+use Rattle.table_entries.proofs.Lengths.{placed-wider, label-count-most}
 use Rattle.table_records.specs.Close.{closed}
 use Rattle.table_records.specs.Choose.{skipAll, skipping, skippingOver}
 use Rattle.table_records.proofs.Frames.{records-add}
@@ -29,14 +31,14 @@ use Rattle.pending_flows.specs.View.{bodiesAt, templatesAt}
 use Rattle.pending_flows.proofs.Templates.{length-templates}
 use Rattle.pending_calls.specs.declared.removal.Removed.{Removed}
 use Rattle.table_view.proofs.Swept.{bodyStays, Within, placed-within}
-use Rattle.table_view.proofs.Summed.{label-count, label-count-most, summed-count}
+use Rattle.table_view.proofs.Summed.{label-count, summed-count}
 use Rattle.table_view.proofs.Closed.{closed-append, closed-none}
+use Rattle.table_view.proofs.Stored.{ids-differ}
 use Rattle.pending_resize.specs.Removing.{zeros, countsOf}
 use Rattle.pending_resize.specs.Cut.{smallEnough, cutSkips, Cuts}
 use Rattle.pending_resize.proofs.Steps.{cut-skips-long}
 use Rattle.pending_resize.proofs.Rows.{Rows, rows-left, count-left, templates-left}
-use Rattle.pending_resize.proofs.Chosen.{all-front, all-back, differ-front, own-labels, labels-apart}
-use Rattle.pending_resize.proofs.Chosen.{first-alike, ids-differ, small-kept}
+use Rattle.pending_resize.proofs.Chosen.{first-alike, small-kept}
 
 module _ (l : PendingFlowsConfig) (p n c m most : ℕ) (w b : List ℕ) (h : Rows p (n + c) m most w)
     (lent : most ≤ length b) where

@@ -3,19 +3,20 @@
 use mathlib.Core.Path.{_≡_, refl, ap, _∙_}
 use mathlib.Core.Logic.{_≢_}
 use mathlib.Core.Bool.{Bool, true, false, cond}
-use mathlib.Core.List.{List, [], _∷_}
-use Prim.Native.Nat.{ℕ, suc, _≤_, _<_}
+use mathlib.Core.List.{List, []}
+use Prim.Native.Nat.{ℕ, _≤_, _<_}
 use native.Mathlib.Omega.{arith}
-use lib.Dec.{eqb}
 use lib.ListN.{length, getD, take, drop, length-replicate, getD-replicate, drop-of-length-le}
+use Rattle.config.proofs.Lists.{All, all-map, all-both}
 use Rattle.table.specs.declared.Entry.{Entry}
 use Rattle.table.specs.declared.TemplateRecord.{TemplateRecord}
 use Rattle.table.specs.Layout.{entriesAt}
-use Rattle.table.specs.Table.{entriesFrom, recordsFrom, hasLabel, tally, sumLens}
+use Rattle.table.specs.Table.{entriesFrom, recordsFrom, hasLabel, sumLens}
 use Rattle.table.proofs.Words.{length-entries}
-use Rattle.table.proofs.Facts.{All, all-map, all-both}
+use Rattle.table.proofs.Labels.{tally-most}
 use Rattle.table_entries.specs.Sums.{summed, heldSum}
-use Rattle.table_entries.proofs.Lengths.{placed-wider}
+use Rattle.table_entries.proofs.Lengths.{placed-wider, label-bytes-most}
+use Rattle.table_entries.proofs.LabelSums.{summed-label}
 use Rattle.table_records.specs.Choose.{skipAll}
 use Rattle.table_records.proofs.Skips.{skipping-at}
 use Rattle.cache_model.specs.Bodies.{Body, Template, size, sumBodies, byteTotal, keep}
@@ -27,21 +28,13 @@ use Rattle.pending_calls.specs.declared.removal.Removed.{Removed}
 use Rattle.pending_calls.specs.Removal.{everything}
 use Rattle.table_view.proofs.Removed.{placed-short}
 use Rattle.table_view.proofs.Swept.{bodyStays, Within, placed-within}
-use Rattle.table_view.proofs.Summed.{zeros-label, label-bytes, label-bytes-most, everything-stays}
+use Rattle.table_view.proofs.Summed.{label-bytes, everything-stays}
 use Rattle.table_view.proofs.Totals.{held-sum-lens, held-sum-total}
 use Rattle.pending_resize.specs.Removing.{zeros}
 use Rattle.pending_resize.specs.Fit.{overTotal, totalSkips, FitsTotal}
 use Rattle.pending_resize.proofs.Steps.{total-skips-long}
 use Rattle.pending_resize.proofs.Rows.{Rows, rows-left, templates-left}
 use Rattle.pending_resize.proofs.Chosen.{first-alike, evictions-alike}
-
-tally-most : (j : ℕ) (es : List Entry) → tally j es ≤ length es
-tally-most j [] = omega arith
-tally-most j (e ∷ es) = by-label (eqb j (e .label)) (tally-most j es)
-  where
-    by-label : (t : Bool) → tally j es ≤ length es → cond t (suc (tally j es)) (tally j es) ≤ suc (length es)
-    by-label true ih = omega arith
-    by-label false ih = omega arith
 
 -- the templates without the least recent ones that pass a total
 abbrev pub underTotal : ℕ → List Template → List Template
@@ -88,7 +81,7 @@ module _ {p k m most : ℕ} {w : List ℕ} (h : Rows p k m most w) where
         let bytes = label-bytes b everything j es within in
         let weighs = ap (sumBodies size) (all-stay j) in
         let most-bytes = label-bytes-most everything j 0 most es (omega arith) (h .placed) in
-        let capped = zeros-label everything true j es small in
+        let capped = summed-label everything true es j small in
         omega (arith, h .bytes-few)
 
     -- as many records go as the model evicts templates

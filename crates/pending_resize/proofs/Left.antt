@@ -2,10 +2,11 @@
 use mathlib.Core.Path.{_≡_, refl, sym, ap, _∙_}
 use mathlib.Core.Bool.{true}
 use mathlib.Core.List.{List, [], append-nil}
-use Prim.Native.Nat.{ℕ, _+_, _*_, _-_, _≤_, max}
+use Prim.Native.Nat.{ℕ, _+_, _*_, _≤_, max}
 use native.Mathlib.Omega.{arith}
 use lib.ListN.{length, drop, take-append-drop}
 use Rattle.areas.specs.Overwrite.{moved}
+use Rattle.areas.proofs.Puts.{drop-more}
 use Rattle.config.specs.declared.PendingFlowsConfig.{PendingFlowsConfig}
 use Rattle.config.specs.Limits.{recordWords, entryWords, maxBodies, wordsNeeded, configNumber}
 use Rattle.config.proofs.Limits as Config
@@ -16,7 +17,6 @@ use Rattle.table.proofs.Words.{length-records, length-entries}
 use Rattle.table.proofs.Facts.{places-hold, LegalTable, table-holds, LegalWords, words-say}
 use Rattle.table_entries.specs.Sums.{heldSum}
 use Rattle.table_entries.proofs.Lengths.{placed-wider}
-use Rattle.table_records.proofs.Frames.{drop-more}
 use Rattle.cache_model.specs.Bodies.{Template}
 use Rattle.cache_model.specs.Cache.{Cache}
 use Rattle.cache_model.specs.Calls.{cut, shrunk}

@@ -8,18 +8,18 @@ use lib.Dec.{leb}
 use lib.ListN.{length, drop}
 use borrow.Author.Tests.{leb-true}
 use Rattle.config.specs.Limits.{entryWords}
+use Rattle.config.proofs.Lists.{all-map}
 use Rattle.table.specs.declared.Entry.{Entry}
 use Rattle.table.specs.declared.TemplateRecord.{TemplateRecord}
 use Rattle.table.specs.Layout.{entriesAt}
 use Rattle.table.specs.Table.{entriesFrom, recordsFrom, indexFrom, hasLabel, tally}
-use Rattle.table.proofs.Facts.{all-map, Placed}
+use Rattle.table.proofs.Facts.{Placed}
 use Rattle.table_entries.specs.Sums.{heldSum}
 use Rattle.table_entries.specs.Pack.{lastEnd, packedEntries, packedBytes}
 use Rattle.table_entries.proofs.Lengths.{held-all, first-end-within, placed-wider}
 use Rattle.table_entries.proofs.Packed.{packed-end, packed-placed, all-packed, tally-packed}
-use Rattle.table_records.proofs.Frames.{records-above}
+use Rattle.table_records.proofs.Frames.{records-above, index-above}
 use Rattle.pending_flows.specs.View.{bodiesAt, templatesAt}
-use Rattle.pending_calls.proofs.IndexFrames.{index-above}
 use Rattle.table_view.proofs.Tied.{Tied, entries-small}
 use Rattle.table_view.proofs.Packed.{packed-bodies, packed-drop}
 use Rattle.table_view.proofs.Closed.{same-templates}

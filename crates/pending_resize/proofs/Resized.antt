@@ -8,9 +8,11 @@ use native.Mathlib.Omega.{arith}
 use lib.ListN.{length, take, drop, drop-of-length-le}
 use lib.Seq.{take-all}
 use Rattle.areas.specs.Overwrite.{overwritten}
+use Rattle.areas.proofs.Puts.{drop-more}
 use Rattle.config.specs.declared.PendingFlowsConfig.{PendingFlowsConfig}
 use Rattle.config.specs.Limits.{headerWords, recordWords, entryWords, maxBodies, wordsNeeded, configNumber}
 use Rattle.config.proofs.Limits as Config
+use Rattle.config.proofs.Lists.{all-front}
 use Rattle.table.specs.declared.Entry.{Entry}
 use Rattle.table.specs.declared.TemplateRecord.{TemplateRecord}
 use Rattle.table.specs.Layout.{limitsOf, heldCount, entryCount, chanceCount, entriesAt, recordsAt}
@@ -21,7 +23,7 @@ use Rattle.table.proofs.Words.{length-records, length-entries, length-index, re
 use Rattle.table.proofs.Facts.{LegalTable, table-says, LegalWords, words-say}
 use Rattle.table_entries.specs.Sums.{heldSum}
 use Rattle.table_entries.proofs.Frames.{entries-above}
-use Rattle.table_records.proofs.Frames.{records-above, drop-more}
+use Rattle.table_records.proofs.Frames.{records-above, index-above}
 use Rattle.cache_model.specs.Bodies.{Template, allBodies}
 use Rattle.cache_model.specs.Cache.{Cache, count, raised}
 use Rattle.cache_model.specs.Calls.{shrunk, resizedTo}
@@ -34,13 +36,11 @@ use Rattle.pending_flows.proofs.Templates.{length-all-bodies}
 use Rattle.pending_flows.proofs.Weights.{counts-sum, count-append}
 use Rattle.pending_calls.specs.declared.removal.Removed.{Removed}
 use Rattle.pending_calls.proofs.Headers.{headed, headed-flag, headed-limits, headed-length, headed-behind}
-use Rattle.pending_calls.proofs.IndexFrames.{index-above}
 use Rattle.table_view.proofs.Tied.{Tied, legal-tied, words-tied}
 use Rattle.table_view.proofs.Stored.{limits-legal, legal-limited, Stored, tableWith, stored-view}
 use Rattle.pending_resize.specs.Shrink.{tableLeft, Shrinks}
 use Rattle.pending_resize.specs.Promises.{ResizesTo}
 use Rattle.pending_resize.proofs.Rows.{Rows, rows-small}
-use Rattle.pending_resize.proofs.Chosen.{all-front}
 use Rattle.pending_resize.proofs.Fits.{rows-total}
 
 -- ---- what is read of a well-formed cache

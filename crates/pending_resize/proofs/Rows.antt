@@ -2,20 +2,21 @@
 -- removal leaves of them. Assumes nothing.
 use mathlib.Core.Path.{_≡_, sym, ap, _∙_}
 use mathlib.Core.List.{List}
-use Prim.Native.Nat.{ℕ, _-_, _≤_, _<_}
+use Prim.Native.Nat.{ℕ, _≤_, _<_}
 use native.Mathlib.Omega.{arith}
 use lib.ListN.{length, getD, drop}
+use Rattle.config.proofs.Lists.{All, all-both}
 use Rattle.table.specs.declared.Entry.{Entry}
 use Rattle.table.specs.declared.TemplateRecord.{TemplateRecord}
 use Rattle.table.specs.Layout.{entriesAt}
 use Rattle.table.specs.Table.{entriesFrom, recordsFrom, indexFrom, tally}
 use Rattle.table.proofs.Words.{length-entries, length-records}
-use Rattle.table.proofs.Facts.{All, all-both, Placed}
+use Rattle.table.proofs.Facts.{Placed}
 use Rattle.table_entries.specs.declared.StayTest.{StayTest}
 use Rattle.table_entries.specs.Sums.{sumMost, heldSum}
 use Rattle.table_entries.specs.Sweep.{swept}
 use Rattle.table_entries.proofs.Lengths.{placed-wider, lens-within, held-all}
-use Rattle.table_entries.proofs.Swept.{placed-swept}
+use Rattle.table_entries.proofs.Swept.{placed-swept, length-swept, all-swept}
 use Rattle.table_records.specs.Close.{closed, positions, remapped}
 use Rattle.table_records.proofs.ClosedIndex.{index-after-closing}
 use Rattle.cache_model.specs.Bodies.{Body, keep}
@@ -23,10 +24,11 @@ use Rattle.cache_model.proofs.Thinning.{thinned}
 use Rattle.pending_flows.specs.View.{bodiesAt, templatesAt}
 use Rattle.pending_calls.specs.declared.removal.Removed.{Removed}
 use Rattle.table_view.proofs.Tied.{Tied, no-label-tied, entries-small}
-use Rattle.table_view.proofs.Removed.{lenMost, placed-short, swept-all, swept-few, label-counts, counts-but-none}
+use Rattle.table_view.proofs.Removed.{placed-short, label-counts, counts-but-none}
 use Rattle.table_view.proofs.Removed.{removed-apart}
 use Rattle.table_view.proofs.Swept.{bodyStays, Within, placed-within, swept-bodies, swept-tally}
 use Rattle.table_view.proofs.Closed.{closed-templates}
+use Rattle.table_view.proofs.Summed.{lenMost}
 use Rattle.pending_resize.specs.Removing.{countsOf, RemovesSkipped}
 
 -- k records from word p on and m entries; their bodies end within `most` bytes
@@ -65,7 +67,7 @@ module _ {p k m most : ℕ} {w : List ℕ} (h : Rows p k m most w) (q : StayTest
   counts-tally : (j : ℕ) → j < 1024 → getD (countsOf stay) j 0 ≡ tally j stay
   counts-tally j small =
       ap (λ (l : List ℕ). getD l j 0) (counts-but-none stay)
-      ∙ label-counts stay (omega (arith, few, swept-few q skip es)) (swept-all q (λ e. e .len ≤ lenMost) skip es short)
+      ∙ label-counts stay (omega (arith, few, length-swept q skip es)) (all-swept (λ e. e .len ≤ lenMost) q skip es short)
       j small
 
   module _ {w′ : List ℕ} {r : Removed} (s : RemovesSkipped q p k m skip w w′ r) where

@@ -16,10 +16,11 @@ use Rattle.table.specs.Table.{recordAt, entriesFrom, recordsFrom}
 use Rattle.table.specs.Reads.{countSum}
 use Rattle.table.specs.WellFormed.{placesLegal}
 use Rattle.table.proofs.Words.{length-records, records-first, records-none}
-use Rattle.table.proofs.Facts.{Placed, places-say}
+use Rattle.table.proofs.Facts.{places-say}
 use Rattle.table_entries.specs.declared.StayTest.{StayTest}
 use Rattle.table_entries.specs.Sums.{summed, heldSum}
 use Rattle.table_entries.specs.Pack.{lastEnd, Packs}
+use Rattle.table_entries.proofs.Lengths.{last-within}
 use Rattle.table_records.specs.Choose.{skipping, skippingOver, evictionsOf}
 use Rattle.table_records.proofs.Skips.{length-skipping, length-skipping-over}
 use Rattle.pending_flows.proofs.Questions.{first-records}
@@ -114,13 +115,6 @@ total-skips-long room rs es skip e =
 pub removed-as : {q q₀ : StayTest} {p k m : ℕ} {skip skip₀ w w′ : List ℕ} {r : Removed} → q ≡ q₀ → skip ≡ skip₀ →
     RemovesSkipped q p k m skip w w′ r → RemovesSkipped q₀ p k m skip₀ w w′ r
 removed-as tested chosen h = rw (← tested, ← chosen) h
-
--- bodies within some bytes end there
-last-within : (from most : ℕ) (es : List Entry) → Placed from most es → lastEnd es ≤ most
-unfolding lastEnd
-last-within from most [] p = omega arith
-last-within from most (e ∷ []) p = p .1
-last-within from most (e ∷ x ∷ es) p = last-within (e .place + e .len) most (x ∷ es) (p .2)
 
 pub ends-within : (n most : ℕ) (es : List Entry) → placesLegal 0 n es ≡ true → n ≤ most → lastEnd es ≤ most
 ends-within n most es t h = omega (arith, last-within 0 n es (places-say 0 n es t))

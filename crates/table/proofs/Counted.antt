@@ -11,14 +11,15 @@ use lib.ListN.{length, getD, set, length-set}
 use lib.Seq.{getD-set-same, getD-set-other}
 use borrow.Author.Tests.{eqb-true, ltb-true, eq-eqb, lt-ltb, le-leb}
 use Rattle.config.specs.declared.PendingFlowsConfig.{PendingFlowsConfig}
+use Rattle.config.proofs.Tests.{and-left, and-right, and-both}
+use Rattle.config.proofs.Lists.{All}
 use Rattle.table.specs.declared.Entry.{Entry}
 use Rattle.table.specs.declared.TemplateRecord.{TemplateRecord}
 use Rattle.table.specs.Table.{tally}
 use Rattle.table.specs.Passes.{recordFresh, recordsPass, allowedBy, entryFits, heldLen, lessAt, entriesPass}
-use Rattle.table.proofs.Tests.{and-left, and-right, and-both}
 use Rattle.table.proofs.RecordsPass.{Fresh, fresh-says}
 use Rattle.table.proofs.EntriesPass.{Fits, fits-says}
-use Rattle.table.proofs.Facts.{All, Differ, Placed, LegalRecord}
+use Rattle.table.proofs.Facts.{Differ, Placed, LegalRecord}
 use Rattle.table.proofs.Draws.{sumOf, occurs, sum-set, in-list, draws}
 use Rattle.table.proofs.Labels.{Absent, sumBut}
 

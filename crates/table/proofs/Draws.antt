@@ -10,8 +10,8 @@ use lib.Dec.{eqb, ltb}
 use lib.ListN.{length, getD, set, replicate, List·getD-eq-default}
 use lib.Seq.{getD-set-same, getD-set-other}
 use borrow.Author.Tests.{ltb-true, lt-ltb, eq-eqb, ne-eqb}
+use Rattle.config.proofs.Tests.{and-left, and-right, and-both}
 use Rattle.table.specs.Passes.{lessAt}
-use Rattle.table.proofs.Tests.{and-left, and-right, and-both}
 
 unfoldable pub sumOf : List ℕ → ℕ
 sumOf [] = 0
@@ -48,7 +48,7 @@ sum-zero [] i h = List·getD-eq-default {A = ℕ} [] 0 {n = i} (omega arith)
 sum-zero (x ∷ l) zero h = omega arith
 sum-zero (x ∷ l) (suc i) h = sum-zero l i (omega arith)
 
-zero-sum : (l : List ℕ) → ((i : ℕ) → getD l i 0 ≡ 0) → sumOf l ≡ 0
+pub zero-sum : (l : List ℕ) → ((i : ℕ) → getD l i 0 ≡ 0) → sumOf l ≡ 0
 unfolding sumOf
 zero-sum [] f = refl
 zero-sum (x ∷ l) f = omega (arith, f 0, zero-sum l (λ i. f (suc i)))

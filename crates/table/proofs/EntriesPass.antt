@@ -9,11 +9,11 @@ use lib.Dec.{eqb, leb, ltb}
 use lib.ListN.{getD}
 use borrow.Author.Tests.{leb-true, lt-ltb, le-ltb, le-leb, lt-leb, eq-eqb, ne-eqb}
 use Rattle.config.specs.Limits.{entryWords}
+use Rattle.config.proofs.Tests.{and-left, and-right, same-order}
 use Rattle.table.specs.declared.Entry.{Entry}
 use Rattle.table.specs.Layout.{entriesAt}
 use Rattle.table.specs.Table.{entryAt, entriesFrom}
 use Rattle.table.specs.Passes.{entryFits, heldLen, lessAt, entriesPass}
-use Rattle.table.proofs.Tests.{and-left, and-right, same-order}
 use Rattle.table.proofs.Words.{entries-first, entries-none}
 
 -- an entry by itself, by the test that decides

@@ -16,27 +16,23 @@ use Rattle.table.specs.Layout.{limitsOf, ttlSet, heldCount, entryCount, 
 use Rattle.table.specs.Table.{Table, tableOf, index, hasLabel, tally, sumLens}
 use Rattle.table.specs.WellFormed.{every, allDiffer, limitsLegal, flagsLegal, countsLegal, recordLegal}
 use Rattle.table.specs.WellFormed.{entryLegal, placesLegal, totalRight, indexRises, tableLegal, wellFormed}
-use Rattle.table.proofs.Tests.{and-left, and-right, and-both}
 use Rattle.config.proofs.Limits.{LegalLimits, limits-say, limits-hold}
-
--- each of a list
-abbrev pub All : {A : Type 0} → (A → Type 0) → List A → Type 0
-All P [] = Unit {0}
-All P (x ∷ xs) = P x × All P xs
-
-pub all-map : {A : Type 0} (P Q : A → Type 0) → ((x : A) → P x → Q x) → (xs : List A) → All P xs → All Q xs
-all-map P Q f [] a = tt
-all-map P Q f (x ∷ xs) a = (f x (a .0), all-map P Q f xs (a .1))
-
-pub all-both : {A : Type 0} (P Q R : A → Type 0) → ((x : A) → P x → Q x → R x) → (xs : List A) → All P xs → All Q xs →
-    All R xs
-all-both P Q R f [] a b = tt
-all-both P Q R f (x ∷ xs) a b = (f x (a .0) (b .0), all-both P Q R f xs (a .1) (b .1))
+use Rattle.config.proofs.Tests.{and-left, and-right, and-both}
+use Rattle.config.proofs.Lists.{All, all-front, all-back}
 
 -- no two records have the same figure
 abbrev pub Differ : (TemplateRecord → ℕ) → List TemplateRecord → Type 0
 Differ f [] = Unit {0}
 Differ f (r ∷ rs) = All (λ u. f r ≢ f u) rs × Differ f rs
+
+pub differ-front : (f : TemplateRecord → ℕ) (rs us : List TemplateRecord) → Differ f (rs ++ us) → Differ f rs
+differ-front f [] us d = tt
+differ-front f (r ∷ rs) us d = (all-front (λ u. f r ≢ f u) rs us (d .0), differ-front f rs us (d .1))
+
+pub differ-across : (f : TemplateRecord → ℕ) (rs us : List TemplateRecord) → Differ f (rs ++ us) →
+    All (λ r. All (λ u. f r ≢ f u) us) rs
+differ-across f [] us d = tt
+differ-across f (r ∷ rs) us d = (all-back (λ u. f r ≢ f u) rs us (d .0), differ-across f rs us (d .1))
 
 -- places rise from `from` on, bodies do not overlap, and all end within `most`
 abbrev pub Placed : ℕ → ℕ → List Entry → Type 0

@@ -18,8 +18,8 @@ use Rattle.table.specs.Layout.{limitsOf, ttlSet, heldCount, entryCount, 
 use Rattle.table.specs.Table.{tableOf, index}
 use Rattle.table.specs.WellFormed.{limitsLegal, flagsLegal, countsLegal, tableLegal, wellFormed}
 use Rattle.table.specs.Passes.{HeaderLegal}
-use Rattle.table.proofs.Tests.{and-left, and-right, and-fails, and-holds}
 use Rattle.config.proofs.Limits.{LegalLimits, limits-say, cap-small}
+use Rattle.config.proofs.Tests.{and-left, and-right, and-fails, and-holds}
 
 -- the flags and the counts
 module _ (w : List ℕ) where

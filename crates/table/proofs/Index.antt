@@ -10,11 +10,12 @@ use native.Mathlib.Decide.{ℕ-discrete}
 use lib.Dec.{leb, ltb}
 use lib.ListN.{length, getD, replicate, getD-replicate}
 use borrow.Author.Tests.{leb-true, ltb-true, lt-ltb}
+use Rattle.config.proofs.Tests.{and-left, and-right, and-both}
+use Rattle.config.proofs.Lists.{All}
 use Rattle.table.specs.declared.TemplateRecord.{TemplateRecord}
 use Rattle.table.specs.WellFormed.{keyAt, indexRises}
 use Rattle.table.specs.Passes.{lessAt}
-use Rattle.table.proofs.Tests.{and-left, and-right, and-both}
-use Rattle.table.proofs.Facts.{All, Differ}
+use Rattle.table.proofs.Facts.{Differ}
 use Rattle.table.proofs.Draws.{occurs, occurs-here, occurs-later, sum-replicate, draws, draws-exact}
 use Rattle.table.proofs.Draws.{less-other}
 

@@ -9,11 +9,13 @@ use native.Mathlib.Decide.{ℕ-discrete}
 use lib.Dec.{eqb}
 use lib.ListN.{length}
 use borrow.Author.Tests.{eqb-true, eqb-false, eq-eqb, ne-eqb}
+use Rattle.config.proofs.Lists.{All, all-map}
+use Rattle.config.proofs.Tests.{by-case, or-second}
 use Rattle.table.specs.declared.Entry.{Entry}
 use Rattle.table.specs.declared.TemplateRecord.{TemplateRecord}
 use Rattle.table.specs.Table.{hasLabel, tally, sumLens}
 use Rattle.table.specs.Passes.{firstLabel, heldLen}
-use Rattle.table.proofs.Facts.{All, Differ}
+use Rattle.table.proofs.Facts.{Differ, differ-across}
 use Rattle.table.proofs.EntriesPass.{handed-adds, held-adds}
 
 -- no record has the label k
@@ -49,12 +51,43 @@ label-says P k (r ∷ rs) a e = by-label (eqb k (r .label)) refl e (label-says P
     by-label true f g later = rw (eqb-true k (r .label) f) (a .0)
     by-label false f g later = later g
 
+-- each record's label is a label of the records
+pub own-labels : (rs : List TemplateRecord) → All (λ r. hasLabel (r .label) rs ≡ true) rs
+own-labels [] = tt
+own-labels (r ∷ rs) = (
+  rw (eq-eqb (r .label) (r .label) refl),
+  all-map (λ u. hasLabel (u .label) rs ≡ true) (λ u. hasLabel (u .label) (r ∷ rs) ≡ true)
+      (λ u h. or-second (eqb (u .label) (r .label)) (hasLabel (u .label) rs) h) rs (own-labels rs),
+)
+
+-- and of no record behind them
+pub labels-apart : (rs us : List TemplateRecord) → Differ (λ r. r .label) (rs ++ us) →
+    All (λ r. hasLabel (r .label) us ≡ false) rs
+labels-apart rs us d =
+    all-map (λ r. Absent (r .label) us) (λ r. hasLabel (r .label) us ≡ false) (λ r a. absent-holds (r .label) us a) rs
+    (differ-across (λ r. r .label) rs us d)
+
 -- entries by label
 pub tally-here : (k : ℕ) (e : Entry) (es : List Entry) → k ≡ e .label → tally k (e ∷ es) ≡ suc (tally k es)
 tally-here k e es h = rw (eq-eqb k (e .label) h)
 
 pub tally-later : (k : ℕ) (e : Entry) (es : List Entry) → (k ≡ e .label → ⊥) → tally k (e ∷ es) ≡ tally k es
 tally-later k e es h = rw (ne-eqb k (e .label) h)
+
+pub tally-most : (k : ℕ) (es : List Entry) → tally k es ≤ length es
+tally-most k [] = omega arith
+tally-most k (e ∷ es) =
+    by-case (λ (n : ℕ). n ≤ suc (length es)) (eqb k (e .label)) (λ _. omega (arith, tally-most k es))
+    (λ _. omega (arith, tally-most k es))
+
+pub tally-append : (k : ℕ) (es fs : List Entry) → tally k (es ++ fs) ≡ tally k es + tally k fs
+tally-append k [] fs = omega arith
+tally-append k (e ∷ es) fs = by-label (eqb k (e .label)) (tally-append k es fs)
+  where
+    by-label : (t : Bool) → tally k (es ++ fs) ≡ tally k es + tally k fs →
+        cond t (suc (tally k (es ++ fs))) (tally k (es ++ fs)) ≡ cond t (suc (tally k es)) (tally k es) + tally k fs
+    by-label true h = omega arith
+    by-label false h = h
 
 -- what holds of each label that some entry has
 pub each-label : (P : ℕ → Type 0) (es : List Entry) → ((k : ℕ) → 0 < tally k es → P k) → All (λ e. P (e .label)) es
@@ -84,12 +117,9 @@ sumBut out (e ∷ es) = heldLen out e + sumBut out es
 -- a held record's label is not the handed-out one
 held-differs : (held : List TemplateRecord) (r : TemplateRecord) → Differ (λ r. r .label) (held ++ (r ∷ [])) →
     Absent (r .label) held
-held-differs [] r d = tt
-held-differs (u ∷ us) r d = (λ e. last us (d .0) (sym e), held-differs us r (d .1))
-  where
-    last : (us : List TemplateRecord) → All (λ v. u .label ≢ v .label) (us ++ (r ∷ [])) → u .label ≢ r .label
-    last [] a = a .0
-    last (v ∷ vs) a = last vs (a .1)
+held-differs held r d =
+    all-map (λ u. Absent (u .label) (r ∷ [])) (λ u. r .label ≢ u .label) (λ u a e. a .0 (sym e)) held
+    (differ-across (λ u. u .label) held (r ∷ []) d)
 
 held-had : (k : ℕ) (held : List TemplateRecord) (r : TemplateRecord) → (k ≡ r .label → ⊥) →
     hasLabel k (held ++ (r ∷ [])) ≡ true → hasLabel k held ≡ true

@@ -5,13 +5,14 @@ use mathlib.Core.List.{List, _++_}
 use Prim.Native.Nat.{ℕ, _≤_, _<_}
 use native.Mathlib.Omega.{arith}
 use lib.ListN.{length, getD, replicate, length-replicate, length-map}
+use Rattle.config.proofs.Tests.{and-left, and-right, and-both, same-test}
+use Rattle.config.proofs.Lists.{All, all-map, all-both}
 use Rattle.table.specs.declared.Entry.{Entry}
 use Rattle.table.specs.declared.TemplateRecord.{TemplateRecord}
 use Rattle.table.specs.Table.{Table, hasLabel, tally, sumLens}
 use Rattle.table.specs.WellFormed.{indexRises, tableLegal}
 use Rattle.table.specs.Passes.{recordsPass, allowedBy, firstLabel, entriesPass}
-use Rattle.table.proofs.Tests.{and-left, and-right, and-both, same-test}
-use Rattle.table.proofs.Facts.{All, all-map, all-both, Differ, LegalRecord, LegalEntry, LegalTable, table-says}
+use Rattle.table.proofs.Facts.{Differ, LegalRecord, LegalEntry, LegalTable, table-says}
 use Rattle.table.proofs.Facts.{table-holds}
 use Rattle.table.proofs.Draws.{sumOf, sum-zero, sum-replicate, draws, draws-exact, exact-draws}
 use Rattle.table.proofs.Index.{index-differs}

@@ -8,10 +8,10 @@ use lib.Dec.{eqb, leb, ltb}
 use lib.ListN.{getD, set}
 use borrow.Author.Tests.{leb-true, ltb-true, eqb-true, lt-ltb, le-ltb, eq-eqb, ne-eqb}
 use Rattle.config.specs.Limits.{recordWords}
+use Rattle.config.proofs.Tests.{and-left, and-right}
 use Rattle.table.specs.declared.TemplateRecord.{TemplateRecord}
 use Rattle.table.specs.Table.{recordAt, recordsFrom}
 use Rattle.table.specs.Passes.{recordFresh, recordsPass, allowedBy, Allowed}
-use Rattle.table.proofs.Tests.{and-left, and-right}
 use Rattle.table.proofs.Words.{records-first, records-none}
 
 -- a record by itself, by the test that decides

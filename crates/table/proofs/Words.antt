@@ -1,9 +1,10 @@
 -- What the words say: the limits, and entries, records and index words from a place on. Assumes nothing.
-use mathlib.Core.Path.{_≡_, refl, ap, _∙_}
+use mathlib.Core.Path.{_≡_, refl, sym, ap, _∙_}
 use mathlib.Core.List.{List, [], _∷_}
 use Prim.Native.Nat.{ℕ, zero, suc, _+_, _*_, _-_, _≤_, _<_}
 use native.Mathlib.Omega.{arith}
-use lib.ListN.{length, drop}
+use lib.ListN.{length, take, drop}
+use lib.Seq.{getD-take, getD-drop}
 use Rattle.config.specs.declared.Ttl.{Ttl}
 use Rattle.config.specs.declared.PendingFlowsConfig.{PendingFlowsConfig}
 use Rattle.config.specs.Limits.{recordWords, entryWords}
@@ -26,6 +27,17 @@ limitsWith w t = record {
 
 pub limits-read : (w : List ℕ) (t : Ttl) → t ≡ ttlOf (ttlSet w) (word w 5) → limitsWith w t ≡ limitsOf w
 limits-read w t e = ap (limitsWith w) e
+
+-- words before n, and from n on
+module _ (w w′ : List ℕ) (n : ℕ) where
+  pub word-below : take n w ≡ take n w′ → (i : ℕ) → i < n → word w i ≡ word w′ i
+  word-below e i h = sym (getD-take n w i 0 h) ∙ ap (λ (l : List ℕ). word l i) e ∙ getD-take n w′ i 0 h
+
+  pub word-above : drop n w ≡ drop n w′ → (i : ℕ) → n ≤ i → word w i ≡ word w′ i
+  word-above e i h =
+      let at : n + (i - n) ≡ i = omega arith in
+      ap (word w) (sym at) ∙ sym (getD-drop n w (i - n) 0) ∙ ap (λ (l : List ℕ). word l (i - n)) e
+      ∙ getD-drop n w′ (i - n) 0 ∙ ap (word w′) at
 
 -- the first, and the others; or none
 module _ (w : List ℕ) (p k : ℕ) where

@@ -7,12 +7,12 @@ use native.Mathlib.Omega.{arith}
 use lib.ListN.{length, length-drop, take-append-drop}
 use Rattle.config.specs.declared.PendingFlowsConfig.{PendingFlowsConfig}
 use Rattle.config.specs.Limits.{recordWords}
+use Rattle.config.proofs.Tests.{and-fails, and-holds}
 use Rattle.table.specs.declared.TemplateRecord.{TemplateRecord}
 use Rattle.table.specs.Layout.{limitsOf, totalWord, heldCount, entryCount, chanceCount, entriesAt, recordsAt}
 use Rattle.table.specs.Table.{tableOf, index, records, entriesFrom, recordsFrom, indexFrom}
 use Rattle.table.specs.WellFormed.{indexRises, tableLegal}
 use Rattle.table.specs.Passes.{HeaderLegal, recordsPass, allowedBy, Allowed, KeysSmall, firstLabel, entriesPass}
-use Rattle.table.proofs.Tests.{and-fails, and-holds}
 use Rattle.table.proofs.Words.{length-entries, length-records, length-index, records-behind}
 use Rattle.table.proofs.Counted.{first-says}
 use Rattle.table.proofs.Passes.{noAllowance, passes, passes-legal}

@@ -1,28 +1,19 @@
 -- Which entries words have, where words below or above a place are the same, and after an entry is stored.
 -- Assumes nothing.
-use mathlib.Core.Path.{_≡_, refl, sym, ap, _∙_}
+use mathlib.Core.Path.{_≡_, refl, ap, _∙_}
 use mathlib.Core.List.{List, [], _∷_, _++_}
-use Prim.Native.Nat.{ℕ, zero, suc, _+_, _*_, _-_, _≤_, _<_}
+use Prim.Native.Nat.{ℕ, zero, suc, _+_, _*_, _≤_, _<_}
 use native.Mathlib.Numerals.{add-one}
 use native.Mathlib.Nat.{add-zero}
 use native.Mathlib.Omega.{arith}
-use lib.ListN.{length, getD, set, take, drop, length-set}
-use lib.Seq.{getD-set-same, getD-set-other, take-set-le, drop-set-lt, getD-take, getD-drop}
+use lib.ListN.{length, set, take, drop, length-set}
+use lib.Seq.{getD-set-same, getD-set-other, take-set-le, drop-set-lt}
 use Rattle.config.specs.Limits.{entryWords}
 use Rattle.table.specs.declared.Entry.{Entry}
 use Rattle.table.specs.Layout.{word}
 use Rattle.table.specs.Table.{entryAt, entriesFrom}
+use Rattle.table.proofs.Words.{word-below, word-above}
 use Rattle.table_entries.specs.Sweep.{putEntry}
-
-module _ (w w′ : List ℕ) (n : ℕ) where
-  pub word-below : take n w ≡ take n w′ → (i : ℕ) → i < n → word w i ≡ word w′ i
-  word-below e i h = sym (getD-take n w i 0 h) ∙ ap (λ (l : List ℕ). getD l i 0) e ∙ getD-take n w′ i 0 h
-
-  pub word-above : drop n w ≡ drop n w′ → (i : ℕ) → n ≤ i → word w i ≡ word w′ i
-  word-above e i h =
-      let at : n + (i - n) ≡ i = omega arith in
-      ap (word w) (sym at) ∙ sym (getD-drop n w (i - n) 0) ∙ ap (λ (l : List ℕ). getD l (i - n) 0) e
-      ∙ getD-drop n w′ (i - n) 0 ∙ ap (word w′) at
 
 -- an entry is its four words
 entry-same : (w w′ : List ℕ) (p : ℕ) → ((i : ℕ) → p ≤ i → i < p + entryWords → word w i ≡ word w′ i) →

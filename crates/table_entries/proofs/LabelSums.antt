@@ -8,15 +8,15 @@ use native.Mathlib.Decide.{ℕ-discrete}
 use lib.ListN.{length, getD, replicate, length-set, length-replicate, getD-replicate}
 use lib.Seq.{getD-set-same, getD-set-other}
 use borrow.Author.Tests.{eq-eqb, ne-eqb}
+use Rattle.config.proofs.Tests.{by-case}
 use Rattle.table.specs.declared.Entry.{Entry}
 use Rattle.table_entries.specs.declared.StayTest.{StayTest}
 use Rattle.table_entries.specs.Stays.{stays}
 use Rattle.table_entries.specs.Sums.{sumMost, moreAt, share, summed, labelSum}
-use Rattle.table_entries.proofs.Choices.{by-case}
 
 -- no label has a sum yet
-abbrev pub noSums : List ℕ
-noSums = replicate 1024 0
+abbrev pub zeros : List ℕ
+zeros = replicate 1024 0
 
 module _ (q : StayTest) (bytes : Bool) where
   -- what the first entry adds to a label's sum
@@ -81,10 +81,7 @@ module _ (q : StayTest) (bytes : Bool) where
 
   -- the sums of no label yet
   module _ (es : List Entry) (k : ℕ) (small : k < 1024) where
-    pub summed-label : getD (summed q bytes noSums es) k 0 ≡ min (labelSum q bytes k es) sumMost
+    pub summed-label : getD (summed q bytes zeros es) k 0 ≡ min (labelSum q bytes k es) sumMost
     summed-label =
-        let z : getD noSums k 0 ≡ 0 = getD-replicate 1024 k 0 0 small in
-        omega (arith, summed-from noSums es k (omega (arith, length-replicate {A = ℕ} 1024 0)) (omega arith))
-
-    pub summed-exact : labelSum q bytes k es ≤ sumMost → getD (summed q bytes noSums es) k 0 ≡ labelSum q bytes k es
-    summed-exact h = omega (arith, summed-label)
+        let z : getD zeros k 0 ≡ 0 = getD-replicate 1024 k 0 0 small in
+        omega (arith, summed-from zeros es k (omega (arith, length-replicate {A = ℕ} 1024 0)) (omega arith))

@@ -2,21 +2,20 @@
 use mathlib.Core.Path.{_≡_, refl}
 use mathlib.Core.Bool.{true, false, _&&_}
 use mathlib.Core.List.{List, [], _∷_}
-use Prim.Native.Nat.{ℕ, _+_, _≤_, _<_}
+use Prim.Native.Nat.{ℕ, _+_, _≤_, _<_, suc}
 use native.Mathlib.Omega.{arith}
 use lib.Dec.{eqb}
-use borrow.Author.Tests.{eqb-true, ne-eqb}
+use lib.ListN.{length}
+use borrow.Author.Tests.{ne-eqb}
+use Rattle.config.proofs.Tests.{by-case}
+use Rattle.config.proofs.Lists.{All}
 use Rattle.table.specs.declared.Entry.{Entry}
-use Rattle.table.specs.Table.{tally}
 use Rattle.table.specs.Passes.{heldLen}
-use Rattle.table.proofs.Tests.{and-right}
-use Rattle.table.proofs.Facts.{All, Placed}
-use Rattle.table.proofs.Labels.{tally-here}
+use Rattle.table.proofs.Facts.{Placed}
 use Rattle.table_entries.specs.declared.StayTest.{StayTest}
 use Rattle.table_entries.specs.Stays.{stays}
 use Rattle.table_entries.specs.Sums.{labelSum, heldSum}
 use Rattle.table_entries.specs.Pack.{lastEnd}
-use Rattle.table_entries.proofs.Choices.{by-case}
 
 -- the lengths of all entries
 unfoldable pub lensSum : List Entry → ℕ
@@ -30,25 +29,15 @@ held-all out [] a = refl
 held-all out (e ∷ es) a =
     rw (ne-eqb (e .label) out (λ d. omega (arith, a .0))) (omega (arith, held-all out es (a .1)))
 
--- of a label no more entries stay than there are
-tally-more : (k : ℕ) (e : Entry) (es : List Entry) → tally k es ≤ tally k (e ∷ es)
-tally-more k e es =
-    by-case (λ (n : ℕ). tally k es ≤ n) (eqb k (e .label)) (λ _. omega arith) (λ _. omega arith)
-
-pub label-count-within : (q : StayTest) (k : ℕ) (es : List Entry) → labelSum q false k es ≤ tally k es
+-- no label has more bodies than there are entries, nor more bytes than there is room
+pub label-count-most : (q : StayTest) (k : ℕ) (es : List Entry) → labelSum q false k es ≤ length es
 unfolding labelSum
-label-count-within q k [] = omega arith
-label-count-within q k (e ∷ es) =
-    by-case (λ (n : ℕ). n + labelSum q false k es ≤ tally k (e ∷ es)) (stays q e && eqb k (e .label))
-    (λ t. omega (
-      arith,
-      tally-here k e es (eqb-true k (e .label) (and-right (stays q e) (eqb k (e .label)) t)),
-      label-count-within q k es,
-    ))
-    (λ _. omega (arith, tally-more k e es, label-count-within q k es))
+label-count-most q k [] = omega arith
+label-count-most q k (e ∷ es) =
+    by-case (λ (n : ℕ). n + labelSum q false k es ≤ suc (length es)) (stays q e && eqb k (e .label))
+    (λ _. omega (arith, label-count-most q k es)) (λ _. omega (arith, label-count-most q k es))
 
--- and those that stay are no longer than all
-pub label-bytes-within : (q : StayTest) (k : ℕ) (es : List Entry) → labelSum q true k es ≤ lensSum es
+label-bytes-within : (q : StayTest) (k : ℕ) (es : List Entry) → labelSum q true k es ≤ lensSum es
 unfolding labelSum lensSum
 label-bytes-within q k [] = omega arith
 label-bytes-within q k (e ∷ es) =
@@ -72,9 +61,20 @@ unfolding lensSum
 lens-within from most [] h p = omega arith
 lens-within from most (e ∷ es) h p = omega (arith, p .0, lens-within (e .place + e .len) most es (p .1) (p .2))
 
+pub label-bytes-most : (q : StayTest) (k from most : ℕ) (es : List Entry) → from ≤ most → Placed from most es →
+    from + labelSum q true k es ≤ most
+label-bytes-most q k from most es h p = omega (arith, label-bytes-within q k es, lens-within from most es h p)
+
 pub first-end-within : (from most : ℕ) (e : Entry) (es : List Entry) → Placed from most (e ∷ es) →
     e .place + e .len ≤ lastEnd (e ∷ es)
 unfolding lastEnd
 first-end-within from most e [] p = omega arith
 first-end-within from most e (x ∷ es) p =
     omega (arith, p .2 .0, first-end-within (e .place + e .len) most x es (p .2))
+
+-- bodies within some bytes end there
+pub last-within : (from most : ℕ) (es : List Entry) → Placed from most es → lastEnd es ≤ most
+unfolding lastEnd
+last-within from most [] p = omega arith
+last-within from most (e ∷ []) p = p .1
+last-within from most (e ∷ x ∷ es) p = last-within (e .place + e .len) most (x ∷ es) (p .2)

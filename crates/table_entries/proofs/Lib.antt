@@ -1,4 +1,3 @@
-pub mod Choices
 pub mod StayTests
 pub mod SumsPasses
 pub mod LabelSums
@@ -9,4 +8,3 @@ pub mod Swept
 pub mod Ends
 pub mod Packed
 pub mod PackPass
-pub mod PackedBodies

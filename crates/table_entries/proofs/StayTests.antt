@@ -1,20 +1,12 @@
 -- Whether an entry stays, by the test that decides. Assumes nothing.
-use mathlib.Core.Path.{_≡_, refl, sym, _∙_}
-use mathlib.Core.Bool.{Bool, true, false, not, _&&_}
+use mathlib.Core.Path.{_≡_, sym, _∙_}
+use mathlib.Core.Bool.{Bool, true, false, not, and-true, and-false}
 use Prim.Native.Nat.{_≤_, _<_}
 use borrow.Author.Tests.{le-leb, lt-leb, eq-eqb, ne-eqb}
 use Rattle.config.specs.Age.{expiredAt}
 use Rattle.table.specs.declared.Entry.{Entry}
 use Rattle.table_entries.specs.declared.StayTest.{StayTest}
 use Rattle.table_entries.specs.Stays.{aged, stays}
-
-and-false : (s : Bool) → s && false ≡ false
-and-false true = refl
-and-false false = refl
-
-and-true : (s : Bool) → s && true ≡ s
-and-true true = refl
-and-true false = refl
 
 module _ (q : StayTest) (e : Entry) where
   pub too-large : q .«max_size» < e .len → false ≡ stays q e

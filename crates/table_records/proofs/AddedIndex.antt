@@ -9,9 +9,9 @@ use lib.Dec.{ltb}
 use lib.ListN.{length, getD, length-append, List·getD-append}
 use lib.Seq.{getD-append-seam}
 use borrow.Author.Tests.{ltb-true, ltb-false}
+use Rattle.config.proofs.Lists.{All}
 use Rattle.table.specs.declared.TemplateRecord.{TemplateRecord}
 use Rattle.table.specs.WellFormed.{keyAt, indexRises}
-use Rattle.table.proofs.Facts.{All}
 use Rattle.table_records.specs.Add.{inserted}
 use Rattle.table_records.proofs.Rises.{Rises, rises-none, rises-says, rises-holds}
 

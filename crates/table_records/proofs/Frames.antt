@@ -1,27 +1,16 @@
 -- What records and index words read, and what stores leave of them. Assumes nothing.
 use mathlib.Core.Path.{_≡_, refl, sym, ap, _∙_}
 use mathlib.Core.List.{List, [], _∷_, _++_}
-use Prim.Native.Nat.{ℕ, zero, suc, _+_, _*_, _-_, _≤_, _<_}
+use Prim.Native.Nat.{ℕ, zero, suc, _+_, _*_, _≤_, _<_}
 use native.Mathlib.Omega.{arith}
 use lib.ListN.{length, set, take, drop, length-set}
-use lib.Seq.{getD-set-same, getD-set-other, take-set-le, drop-set-lt, getD-take, getD-drop, take-take, drop-drop}
+use lib.Seq.{getD-set-same, getD-set-other, take-set-le, drop-set-lt}
 use Rattle.config.specs.Limits.{recordWords}
 use Rattle.table.specs.declared.TemplateRecord.{TemplateRecord}
 use Rattle.table.specs.Layout.{word}
 use Rattle.table.specs.Table.{recordAt, recordsFrom, indexFrom}
+use Rattle.table.proofs.Words.{word-below, word-above}
 use Rattle.table_records.specs.Close.{putRecord}
-
--- words before n, and from n on
-module _ (w w′ : List ℕ) (n : ℕ) where
-  pub word-below : take n w ≡ take n w′ → (i : ℕ) → i < n → word w i ≡ word w′ i
-  word-below e i h = sym (getD-take n w i 0 h) ∙ ap (λ (l : List ℕ). word l i) e ∙ getD-take n w′ i 0 h
-
-  pub word-above : drop n w ≡ drop n w′ → (i : ℕ) → n ≤ i → word w i ≡ word w′ i
-  word-above e i h =
-      let at : n + (i - n) ≡ i = omega arith in
-      ap (word w) (sym at) ∙ sym (getD-drop n w (i - n) 0) ∙ ap (λ (l : List ℕ). word l (i - n)) e
-      ∙ getD-drop n w′ (i - n) 0
-      ∙ ap (word w′) at
 
 -- a word after a store
 pub word-other : (w : List ℕ) (i j a : ℕ) → (j ≡ i → ⊥) → word (set w i a) j ≡ word w j
@@ -29,16 +18,6 @@ word-other w i j a h = getD-set-other w i j a 0 h
 
 pub word-same : (w : List ℕ) (i a : ℕ) → i < length w → word (set w i a) i ≡ a
 word-same w i a h = getD-set-same w i a 0 h
-
--- less of the same
-pub take-less : (m n : ℕ) (w w′ : List ℕ) → m ≤ n → take n w ≡ take n w′ → take m w ≡ take m w′
-take-less m n w w′ h e = sym (take-take m n w h) ∙ ap (take m) e ∙ take-take m n w′ h
-
-pub drop-more : (m n : ℕ) (w w′ : List ℕ) → n ≤ m → drop n w ≡ drop n w′ → drop m w ≡ drop m w′
-drop-more m n w w′ h e =
-    let z : n + (m - n) ≡ m = omega arith in
-    ap (λ (j : ℕ). drop j w) (sym z) ∙ sym (drop-drop (m - n) n w) ∙ ap (drop (m - n)) e ∙ drop-drop (m - n) n w′
-    ∙ ap (λ (j : ℕ). drop j w′) z
 
 -- records read the first three words of each place
 record-same : (w w′ : List ℕ) (p : ℕ) → ((c : ℕ) → c < 3 → word w (p + c) ≡ word w′ (p + c)) →
@@ -76,6 +55,9 @@ index-same w w′ p (suc k) f =
       f 0 (p + 3) (omega arith) (omega arith),
       index-same w w′ (p + recordWords) k (λ i q a b. f (i + 1) q (omega arith) (omega arith)),
     )
+
+pub index-above : (w w′ : List ℕ) (p k n : ℕ) → n ≤ p → drop n w ≡ drop n w′ → indexFrom w p k ≡ indexFrom w′ p k
+index-above w w′ p k n h e = index-same w w′ p k (λ i q a b. word-above w w′ n e q (omega arith))
 
 pub index-shifted : (w w′ : List ℕ) (p p′ k : ℕ) →
     ((i : ℕ) → i < k → word w (p + recordWords * i + 3) ≡ word w′ (p′ + recordWords * i + 3)) →

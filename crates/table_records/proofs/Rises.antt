@@ -6,9 +6,9 @@ use Prim.Native.Nat.{ℕ, _+_, _≤_, _<_}
 use lib.Dec.{leb, ltb}
 use lib.ListN.{length}
 use borrow.Author.Tests.{leb-true, ltb-true, lt-ltb, le-leb}
+use Rattle.config.proofs.Tests.{and-left, and-right, and-both}
 use Rattle.table.specs.declared.TemplateRecord.{TemplateRecord}
 use Rattle.table.specs.WellFormed.{keyAt, indexRises}
-use Rattle.table.proofs.Tests.{and-left, and-right, and-both}
 
 pub record Rises (rs : List TemplateRecord) (low i : ℕ) (is : List ℕ) : Type 0 where
   pub known : i < length rs

@@ -1,21 +1,16 @@
 -- A sum of weights, taken along a list that has each place with a weight once. Assumes nothing.
 use mathlib.Core.Path.{_≡_, refl, sym, ap, _∙_}
 use mathlib.Core.List.{List, [], _∷_}
-use Prim.Native.Nat.{ℕ, suc, _+_, _<_}
+use Prim.Native.Nat.{ℕ, _+_, _<_}
 use native.Mathlib.Omega.{arith}
 use native.Mathlib.Decide.{ℕ-discrete}
 use lib.ListN.{length, getD, set}
 use lib.Seq.{getD-set-same, getD-set-other}
-use Rattle.table.proofs.Draws.{sumOf, occurs, occurs-here, occurs-later, sum-set, in-list}
+use Rattle.table.proofs.Draws.{sumOf, occurs, occurs-here, occurs-later, sum-set, in-list, zero-sum}
 
 unfoldable pub sumAlong : List ℕ → List ℕ → ℕ
 sumAlong ws [] = 0
 sumAlong ws (i ∷ is) = getD ws i 0 + sumAlong ws is
-
-no-weights : (ws : List ℕ) → ((i : ℕ) → getD ws i 0 ≡ 0) → sumOf ws ≡ 0
-unfolding sumOf
-no-weights [] f = refl
-no-weights (x ∷ ws) f = omega (arith, f 0, no-weights ws (λ i. f (suc i)))
 
 -- a weight that the list does not take does not matter
 along-set : (ws : List ℕ) (i : ℕ) (is : List ℕ) → occurs i is ≡ 0 → sumAlong (set ws i 0) is ≡ sumAlong ws is
@@ -31,7 +26,7 @@ along-set ws i (j ∷ is) o = by-place (ℕ-discrete i j) (along-set ws i is)
 
 pub sum-along : (ws is : List ℕ) → ((i : ℕ) → 0 < getD ws i 0 → occurs i is ≡ 1) → sumAlong ws is ≡ sumOf ws
 unfolding sumAlong occurs
-sum-along ws [] f = sym (no-weights ws (λ i. none i (ℕ-discrete (getD ws i 0) 0)))
+sum-along ws [] f = sym (zero-sum ws (λ i. none i (ℕ-discrete (getD ws i 0) 0)))
   where
     none : (i : ℕ) → Dec (getD ws i 0 ≡ 0) → getD ws i 0 ≡ 0
     none i (yes e) = e

@@ -2,24 +2,25 @@
 -- together still does. Assumes nothing.
 use mathlib.Core.Path.{_≡_, refl, sym, ap, _∙_, subst}
 use mathlib.Core.Logic.{_≢_}
-use mathlib.Core.Bool.{Bool, true, false, _||_, cond}
+use mathlib.Core.Bool.{Bool, true, false, _||_}
 use mathlib.Core.List.{List, [], _∷_, _++_}
-use Prim.Native.Nat.{ℕ, suc, _+_, _<_}
+use Prim.Native.Nat.{ℕ, suc, _<_}
 use native.Mathlib.Omega.{arith}
 use lib.Dec.{eqb}
 use lib.ListN.{length}
 use borrow.Author.Tests.{eqb-true, eq-eqb}
+use Rattle.config.proofs.Lists.{All, all-map, all-both, all-last}
+use Rattle.config.proofs.Tests.{or-second}
 use Rattle.table.specs.declared.Entry.{Entry}
 use Rattle.table.specs.declared.TemplateRecord.{TemplateRecord}
 use Rattle.table.specs.Table.{hasLabel, tally}
 use Rattle.table.specs.WellFormed.{indexRises}
-use Rattle.table.proofs.Facts.{All, all-map, all-both, Differ}
-use Rattle.table.proofs.Labels.{absent-says, tally-here, tally-later}
+use Rattle.table.proofs.Facts.{Differ}
+use Rattle.table.proofs.Labels.{absent-says, tally-here, tally-later, tally-append}
 use Rattle.table.proofs.Counted.{labelsOf, occurs-tally}
 use Rattle.table.proofs.Draws.{occurs}
 use Rattle.table_records.specs.Add.{inserted}
-use Rattle.cache_model.proofs.Lists.{all-last}
-use Rattle.table_view.proofs.Tied.{Tied, TiedApart, or-second}
+use Rattle.table_view.proofs.Tied.{Tied, TiedApart}
 
 -- ---- a record more
 
@@ -79,15 +80,6 @@ module _ {a : ℕ} {rs : List TemplateRecord} {es : List Entry} {is : List ℕ} 
       }
 
 -- ---- an entry more
-
-pub tally-append : (k : ℕ) (es fs : List Entry) → tally k (es ++ fs) ≡ tally k es + tally k fs
-tally-append k [] fs = omega arith
-tally-append k (e ∷ es) fs = by-label (eqb k (e .label)) (tally-append k es fs)
-  where
-    by-label : (x : Bool) → tally k (es ++ fs) ≡ tally k es + tally k fs →
-        cond x (suc (tally k (es ++ fs))) (tally k (es ++ fs)) ≡ cond x (suc (tally k es)) (tally k es) + tally k fs
-    by-label true ih = omega arith
-    by-label false ih = ih
 
 module _ {a : ℕ} {rs : List TemplateRecord} {es : List Entry} {is : List ℕ} (h : TiedApart a rs es is) (e : Entry)
     (same : e .label ≡ a) where
@@ -152,19 +144,6 @@ module _ (es es′ : List Entry) (same : labelsOf es′ ≡ labelsOf es) where
     labels-known = same-said (λ k. hasLabel k rs || eqb a k ≡ true) (h .labels-known);
     entries-small = same-said (λ k. k < 1024) (h .entries-small);
     label-apart = h .label-apart;
-    index-right = h .index-right;
-    index-long = h .index-long;
-  }
-
-  pub same-labels-tied : {rs : List TemplateRecord} {is : List ℕ} → Tied rs es is → Tied rs es′ is
-  same-labels-tied {rs} h = record {
-    keys-small = h .keys-small;
-    labels-small = h .labels-small;
-    counts-right = same-counts rs (h .counts-right);
-    some-bodies = h .some-bodies;
-    keys-differ = h .keys-differ;
-    labels-differ = h .labels-differ;
-    labels-known = same-said (λ k. hasLabel k rs ≡ true) (h .labels-known);
     index-right = h .index-right;
     index-long = h .index-long;
   }

@@ -2,18 +2,18 @@
 use mathlib.Core.Path.{_≡_, refl, ap, _∙_}
 use mathlib.Core.Bool.{Bool, true, false, cond}
 use mathlib.Core.List.{List, [], _∷_, _++_}
-use Prim.Native.Nat.{ℕ, suc, _+_, _≤_}
+use Prim.Native.Nat.{ℕ, _+_, _≤_}
 use native.Mathlib.Omega.{arith}
 use lib.Dec.{eqb}
 use lib.ListN.{length, take, drop}
 use Rattle.areas.specs.Overwrite.{putAt}
+use Rattle.areas.proofs.Puts.{take-put, put-there}
 use Rattle.table.specs.declared.Entry.{Entry}
-use Rattle.table.specs.Table.{tally}
 use Rattle.table.proofs.Facts.{Placed}
 use Rattle.cache_model.specs.Bodies.{Body}
 use Rattle.pending_flows.specs.View.{bodyAt, bodiesAt}
 use Rattle.table_view.proofs.Swept.{placed-within}
-use Rattle.table_view.proofs.Frames.{put-below, put-there, bodies-below}
+use Rattle.table_view.proofs.Frames.{bodies-below}
 
 pub bodies-append : (b : List ℕ) (k : ℕ) (es fs : List Entry) →
     bodiesAt b k (es ++ fs) ≡ bodiesAt b k es ++ bodiesAt b k fs
@@ -25,19 +25,6 @@ bodies-append b k (x ∷ es) fs = by-label (eqb k (x .label)) (bodies-append b k
         ≡ cond y (bodyAt b x ∷ bodiesAt b k es) (bodiesAt b k es) ++ bodiesAt b k fs
     by-label true ih = ap (λ (l : List Body). bodyAt b x ∷ l) ih
     by-label false ih = ih
-
-pub tally-append : (k : ℕ) (es fs : List Entry) → tally k (es ++ fs) ≡ tally k es + tally k fs
-tally-append k [] fs = omega arith
-tally-append k (x ∷ es) fs = by-label (eqb k (x .label)) (tally-append k es fs)
-  where
-    by-label : (y : Bool) → tally k (es ++ fs) ≡ tally k es + tally k fs →
-        cond y (suc (tally k (es ++ fs))) (tally k (es ++ fs)) ≡ cond y (suc (tally k es)) (tally k es) + tally k fs
-    by-label true ih = omega arith
-    by-label false ih = ih
-
-pub appended-tally : (k : ℕ) (es : List Entry) (e : Entry) →
-    tally k (es ++ (e ∷ [])) ≡ tally k es + cond (eqb k (e .label)) 1 0
-appended-tally k es e = tally-append k es (e ∷ [])
 
 pub appended-placed : (from most : ℕ) (es : List Entry) (e : Entry) → Placed from (e .place) es → from ≤ e .place →
     e .place + e .len ≤ most → Placed from most (es ++ (e ∷ []))
@@ -53,5 +40,5 @@ appended-bodies b body k es e long room p =
     let b′ = putAt (e .place) body b in
     let there : take (e .len) (drop (e .place) b′) ≡ body = rw long (put-there (e .place) body b room) in
     let old : bodiesAt b′ k es ≡ bodiesAt b k es =
-    bodies-below (e .place) b′ b k es (placed-within 0 (e .place) es p) (put-below (e .place) body b room) in
+    bodies-below (e .place) b′ b k es (placed-within 0 (e .place) es p) (take-put (e .place) body b room) in
     bodies-append b′ k es (e ∷ []) ∙ rw (there, old)

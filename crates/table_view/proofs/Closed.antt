@@ -7,9 +7,9 @@ use Prim.Native.Nat.{ℕ, zero, suc, _<_}
 use native.Mathlib.Omega.{arith}
 use lib.ListN.{length, getD, take, drop}
 use borrow.Author.Tests.{ltb-true, ltb-false}
+use Rattle.config.proofs.Lists.{All}
 use Rattle.table.specs.declared.Entry.{Entry}
 use Rattle.table.specs.declared.TemplateRecord.{TemplateRecord}
-use Rattle.table.proofs.Facts.{All}
 use Rattle.table_records.specs.Close.{recounted, remains, closed}
 use Rattle.cache_model.specs.Bodies.{Body, Template, unlessEmpty}
 use Rattle.pending_flows.specs.View.{bodiesAt, templateAt, templatesAt}

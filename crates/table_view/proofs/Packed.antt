@@ -1,58 +1,20 @@
 -- All bodies moved down, in their order, so that each begins where the one before it ends. Assumes nothing.
-use mathlib.Core.Path.{_≡_, refl, sym, ap, _∙_}
+use mathlib.Core.Path.{_≡_, refl, sym, _∙_}
 use mathlib.Core.Bool.{Bool, true, false}
 use mathlib.Core.List.{List, [], _∷_, _++_}
-use Prim.Native.Nat.{ℕ, suc, _+_, _≤_}
+use Prim.Native.Nat.{ℕ, _+_, _≤_}
 use native.Mathlib.Omega.{arith}
 use lib.Dec.{leb}
 use lib.ListN.{length, take, drop, length-append, length-take, length-drop, drop-of-length-le}
 use borrow.Author.Tests.{leb-true, leb-false}
 use Rattle.areas.specs.Overwrite.{moved}
+use Rattle.areas.proofs.Puts.{take-less, part-same}
+use Rattle.areas.proofs.Moves.{length-moved, moved-there, take-moved, drop-moved, drop-moved-from}
 use Rattle.table.specs.declared.Entry.{Entry}
-use Rattle.table.specs.Table.{tally}
-use Rattle.table_entries.specs.Pack.{packedEntries, packedBytes, packedEnd}
-use Rattle.table_entries.proofs.Lengths.{lensSum}
-use Rattle.table_entries.proofs.Packed.{placedAt}
-use Rattle.table.proofs.Facts.{All, Placed}
+use Rattle.table_entries.specs.Pack.{packedEntries, packedBytes}
+use Rattle.table.proofs.Facts.{Placed}
 use Rattle.pending_flows.specs.View.{bodiesAt}
-use Rattle.table_view.proofs.Frames.{read-below, drop-further, moved-long, moved-below, moved-there}
-use Rattle.table_view.proofs.Frames.{moved-above, bodies-above}
-
-pub packed-end : (at : ℕ) (es : List Entry) → packedEnd at es ≡ at + lensSum es
-unfolding packedEnd lensSum
-packed-end at [] = omega arith
-packed-end at (e ∷ es) = omega (arith, packed-end (at + e .len) es)
-
-pub packed-placed : (at : ℕ) (es : List Entry) → Placed at (packedEnd at es) (packedEntries at es)
-unfolding packedEnd packedEntries
-packed-placed at [] = tt
-packed-placed at (e ∷ es) =
-    (omega arith, omega (arith, packed-end (at + e .len) es), packed-placed (at + e .len) es)
-
--- they end no later than before
-pub packed-most : (at from most : ℕ) (es : List Entry) → at ≤ from → at ≤ most → Placed from most es →
-    packedEnd at es ≤ most
-unfolding packedEnd
-packed-most at from most [] low room p = room
-packed-most at from most (e ∷ es) low room p =
-    packed-most (at + e .len) (e .place + e .len) most es (omega (arith, p .0)) (omega (arith, p .0, p .1)) (p .2)
-
--- all but the places stays
-pub packed-count : (at : ℕ) (es : List Entry) → length (packedEntries at es) ≡ length es
-unfolding packedEntries
-packed-count at [] = refl
-packed-count at (e ∷ es) = ap suc (packed-count (at + e .len) es)
-
-pub packed-tally : (k at : ℕ) (es : List Entry) → tally k (packedEntries at es) ≡ tally k es
-unfolding packedEntries
-packed-tally k at [] = refl
-packed-tally k at (e ∷ es) = rw (packed-tally k (at + e .len) es)
-
-pub packed-all : (P : ℕ → ℕ → ℕ → Type 0) (at : ℕ) (es : List Entry) → All (λ e. P (e .label) (e .len) (e .clock)) es →
-    All (λ e. P (e .label) (e .len) (e .clock)) (packedEntries at es)
-unfolding packedEntries
-packed-all P at [] a = tt
-packed-all P at (e ∷ es) a = (a .0, packed-all P (at + e .len) es (a .1))
+use Rattle.table_view.proofs.Frames.{bodies-above}
 
 -- the bytes after the move of one body: what is there for the bodies behind it
 module _ (at from : ℕ) (e : Entry) (es : List Entry) (b : List ℕ) (low : at ≤ from)
@@ -60,8 +22,14 @@ module _ (at from : ℕ) (e : Entry) (es : List Entry) (b : List ℕ) (low : at 
   abbrev oneMoved : List ℕ
   oneMoved = moved (e .place) at (e .len) b
 
+  target : at + e .len ≤ length b
+  target = omega (arith, p .0, p .1)
+
+  moved-long : length oneMoved ≡ length b
+  moved-long = length-moved (e .place) at (e .len) b (p .1) target
+
   rest-placed : Placed (e .place + e .len) (length oneMoved) es
-  rest-placed = rw (moved-long (e .place) at (e .len) b (p .1) (omega (arith, p .0))) (p .2)
+  rest-placed = rw moved-long (p .2)
 
 pub packed-long : (at from : ℕ) (es : List Entry) (b : List ℕ) → at ≤ from → Placed from (length b) es →
     length (packedBytes at es b) ≡ length b
@@ -70,18 +38,17 @@ packed-long at from [] b low p = refl
 packed-long at from (e ∷ es) b low p =
     packed-long (at + e .len) (e .place + e .len) es (oneMoved at from e es b low p) (omega (arith, p .0))
     (rest-placed at from e es b low p)
-    ∙ moved-long (e .place) at (e .len) b (p .1) (omega (arith, p .0))
+    ∙ moved-long at from e es b low p
 
-pub packed-below : (at from : ℕ) (es : List Entry) (b : List ℕ) → at ≤ from → Placed from (length b) es →
+packed-below : (at from : ℕ) (es : List Entry) (b : List ℕ) → at ≤ from → Placed from (length b) es →
     take at (packedBytes at es b) ≡ take at b
 unfolding packedBytes
 packed-below at from [] b low p = refl
 packed-below at from (e ∷ es) b low p =
     let b₁ = oneMoved at from e es b low p in
-    let ih : take (at + e .len) (packedBytes (at + e .len) es b₁) ≡ take (at + e .len) b₁ =
-    packed-below (at + e .len) (e .place + e .len) es b₁ (omega (arith, p .0)) (rest-placed at from e es b low p) in
-    read-below (at + e .len) (packedBytes (at + e .len) es b₁) b₁ 0 at (omega arith) ih
-    ∙ moved-below (e .place) at (e .len) b (p .1) (omega (arith, p .0))
+    take-less at (at + e .len) (packedBytes (at + e .len) es b₁) b₁ (omega arith)
+    (packed-below (at + e .len) (e .place + e .len) es b₁ (omega (arith, p .0)) (rest-placed at from e es b low p))
+    ∙ take-moved (e .place) at (e .len) b (p .1) (target at from e es b low p)
 
 pub packed-bodies : (k at from : ℕ) (es : List Entry) (b : List ℕ) → at ≤ from → Placed from (length b) es →
     bodiesAt (packedBytes at es b) k (packedEntries at es) ≡ bodiesAt b k es
@@ -90,16 +57,16 @@ packed-bodies k at from [] b low p = refl
 packed-bodies k at from (e ∷ es) b low p =
     let b₁ = oneMoved at from e es b low p in
     let b₂ = packedBytes (at + e .len) es b₁ in
-    let down : at ≤ e .place = omega (arith, p .0) in
+    let room = target at from e es b low p in
     let rest = rest-placed at from e es b low p in
     let below : take (at + e .len) b₂ ≡ take (at + e .len) b₁ =
-    packed-below (at + e .len) (e .place + e .len) es b₁ (omega arith) rest in
+    packed-below (at + e .len) (e .place + e .len) es b₁ (omega (arith, p .0)) rest in
     let here : take (e .len) (drop at b₂) ≡ take (e .len) (drop (e .place) b) =
-    read-below (at + e .len) b₂ b₁ at (e .len) (omega arith) below ∙ moved-there (e .place) at (e .len) b (p .1) down in
+    part-same (at + e .len) at (e .len) b₂ b₁ below (omega arith) ∙ moved-there (e .place) at (e .len) b (p .1) room in
     let behind : bodiesAt b₂ k (packedEntries (at + e .len) es) ≡ bodiesAt b k es =
-    packed-bodies k (at + e .len) (e .place + e .len) es b₁ (omega arith) rest
-    ∙ bodies-above (at + e .len) b₁ b k (e .place + e .len) (length b) es (omega arith) (p .2)
-    (moved-above (e .place) at (e .len) b (p .1) down) in
+    packed-bodies k (at + e .len) (e .place + e .len) es b₁ (omega (arith, p .0)) rest
+    ∙ bodies-above (at + e .len) b₁ b k (e .place + e .len) (length b) es (omega (arith, p .0)) (p .2)
+    (drop-moved (e .place) at (e .len) b (p .1) room) in
     rw (here, behind)
 
 -- no byte changes from where the bodies ended before
@@ -137,8 +104,8 @@ drop-within at from most (e ∷ es) b low room p =
     let down : at ≤ e .place = omega (arith, p .0) in
     let ends : e .place + e .len ≤ length b = omega (arith, p .1) in
     drop-within (at + e .len) (e .place + e .len) most es b₁ (omega arith)
-    (omega (arith, moved-long (e .place) at (e .len) b ends down)) (p .2)
-    ∙ drop-further (at + e .len) b₁ b most (omega (arith, p .1)) (moved-above (e .place) at (e .len) b ends down)
+    (omega (arith, length-moved (e .place) at (e .len) b ends (omega arith))) (p .2)
+    ∙ drop-moved-from (e .place) at (e .len) b ends (omega arith) most (omega (arith, p .1))
 
 pub packed-drop : (at from most : ℕ) (es : List Entry) (b : List ℕ) → at ≤ from → Placed from most es →
     drop most (packedBytes at es b) ≡ drop most b

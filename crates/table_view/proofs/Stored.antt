@@ -15,6 +15,7 @@ use borrow.Author.Tests.{eq-eqb}
 use Rattle.config.specs.declared.PendingFlowsConfig.{PendingFlowsConfig}
 use Rattle.config.specs.Limits.{headerWords, maxBodies}
 use Rattle.config.proofs.Limits as Config
+use Rattle.config.proofs.Lists.{All, all-map, all-both}
 use Rattle.table.specs.declared.Entry.{Entry}
 use Rattle.table.specs.declared.TemplateRecord.{TemplateRecord}
 use Rattle.table.specs.Layout.{limitsOf, ttlSet, cachedWord, droppedWord, totalWord, heldCount, entryCount}
@@ -24,17 +25,17 @@ use Rattle.table.specs.Table.{sumLens}
 use Rattle.table.specs.WellFormed.{wellFormed}
 use Rattle.table.specs.Reads.{countSum}
 use Rattle.table.proofs.Words.{length-entries, length-records}
-use Rattle.table.proofs.Facts.{All, all-map, all-both, Differ, Placed, LegalRecord, LegalEntry, LegalTable}
+use Rattle.table.proofs.Facts.{Differ, Placed, LegalRecord, LegalEntry, LegalTable}
 use Rattle.table.proofs.Facts.{LegalWords, words-hold}
 use Rattle.table.proofs.Labels.{label-says}
-use Rattle.cache_model.specs.Bodies.{Body, Template, size, sumBodies, byteTotal, unlessEmpty}
-use Rattle.cache_model.proofs.Lists as Lists
+use Rattle.cache_model.specs.Bodies.{Body, Template, size, unlessEmpty}
 use Rattle.cache_model.proofs.Parts as Parts
 use Rattle.cache_model.proofs.Limits.{LegalLimits, Within}
 use Rattle.cache_model.proofs.Calls.{whole, limitsAlone, Limited}
 use Rattle.pending_flows.specs.View.{bodyAt, bodiesAt, templateAt, templatesAt, chanceAt, cacheOf, areasOf, view}
 use Rattle.pending_flows.proofs.Templates.{length-bodies, length-templates}
-use Rattle.pending_flows.proofs.Weights.{weigh, weighAll, weighOwned, weights-agree, counts-sum, len}
+use Rattle.pending_flows.proofs.Weights.{weighOwned, weights-agree, counts-sum, len}
+use Rattle.pending_flows.proofs.Figures.{sized, total-weighs}
 use Rattle.table_view.proofs.Tied.{Tied}
 
 -- ---- templates, record by record
@@ -58,76 +59,49 @@ module _ (b : List ℕ) (es : List Entry) where
       ap (λ (ts : List Template). templateAt b es r ∷ ts) (whole-templates held handed single (have .1))
 
   all-templates : (P : Template → Type 0) (rs : List TemplateRecord) → All (λ r. P (templateAt b es r)) rs →
-      Lists.All P (templatesAt b es rs)
+      All P (templatesAt b es rs)
   all-templates P [] a = tt
   all-templates P (r ∷ rs) a = (a .0, all-templates P rs (a .1))
 
-  all-records : (P : Template → Type 0) (rs : List TemplateRecord) → Lists.All P (templatesAt b es rs) →
+  all-records : (P : Template → Type 0) (rs : List TemplateRecord) → All P (templatesAt b es rs) →
       All (λ r. P (templateAt b es r)) rs
   all-records P [] a = tt
   all-records P (r ∷ rs) a = (a .0, all-records P rs (a .1))
 
-  ids-differ : (rs : List TemplateRecord) → Differ (λ r. r .key) rs → Parts.Differ (templatesAt b es rs)
+  pub ids-differ : (rs : List TemplateRecord) → Differ (λ r. r .key) rs → Parts.Differ (templatesAt b es rs)
   ids-differ [] d = tt
   ids-differ (r ∷ rs) d = (all-templates (λ t. r .key ≢ t .id) rs (d .0), ids-differ rs (d .1))
 
 -- ---- bodies, entry by entry
 
 module _ (b : List ℕ) where
-  -- a body is as long as its entry says, where it lies within the bytes
-  sized : (from most : ℕ) (es : List Entry) → most ≤ length b → Placed from most es →
-      All (λ e. size (bodyAt b e) ≡ e .len) es
-  sized from most [] m p = tt
-  sized from most (e ∷ es) m p = (
-    length-take-le (e .len) (drop (e .place) b) (omega (arith, p .1, length-drop (e .place) b)),
-    sized (e .place + e .len) most es m (p .2),
-  )
-
   all-bodies : (P : Body → Type 0) (k : ℕ) (es : List Entry) → All (λ e. P (bodyAt b e)) es →
-      Lists.All P (bodiesAt b k es)
+      All P (bodiesAt b k es)
   all-bodies P k [] a = tt
   all-bodies P k (e ∷ es) a = by-label (eqb k (e .label)) (all-bodies P k es (a .1))
     where
-      by-label : (x : Bool) → Lists.All P (bodiesAt b k es) →
-          Lists.All P (cond x (bodyAt b e ∷ bodiesAt b k es) (bodiesAt b k es))
+      by-label : (x : Bool) → All P (bodiesAt b k es) →
+          All P (cond x (bodyAt b e ∷ bodiesAt b k es) (bodiesAt b k es))
       by-label true ih = (a .0, ih)
       by-label false ih = ih
 
   -- what holds of each record's bodies holds of each entry's, where the entries have records
   all-entries : (P : Body → Type 0) (rs : List TemplateRecord) (es : List Entry) →
-      All (λ e. hasLabel (e .label) rs ≡ true) es → All (λ r. Lists.All P (bodiesAt b (r .label) es)) rs →
+      All (λ e. hasLabel (e .label) rs ≡ true) es → All (λ r. All P (bodiesAt b (r .label) es)) rs →
       All (λ e. P (bodyAt b e)) es
   all-entries P rs [] known a = tt
   all-entries P rs (e ∷ es) known a = (
-    here (label-says (λ k. Lists.All P (bodiesAt b k (e ∷ es))) (e .label) rs a (known .0)),
+    here (label-says (λ k. All P (bodiesAt b k (e ∷ es))) (e .label) rs a (known .0)),
     all-entries P rs es (known .1) (all-map _ _ (λ r x. later (eqb (r .label) (e .label)) (r .label) x) rs a),
   )
     where
-      here : Lists.All P (bodiesAt b (e .label) (e ∷ es)) → P (bodyAt b e)
+      here : All P (bodiesAt b (e .label) (e ∷ es)) → P (bodyAt b e)
       here x = (rw (eq-eqb (e .label) (e .label) refl) at x) .0
 
-      later : (x : Bool) (k : ℕ) → Lists.All P (cond x (bodyAt b e ∷ bodiesAt b k es) (bodiesAt b k es)) →
-          Lists.All P (bodiesAt b k es)
+      later : (x : Bool) (k : ℕ) → All P (cond x (bodyAt b e ∷ bodiesAt b k es) (bodiesAt b k es)) →
+          All P (bodiesAt b k es)
       later true k a = a .1
       later false k a = a
-
-  sizes-weigh : (k : ℕ) (es : List Entry) → All (λ e. size (bodyAt b e) ≡ e .len) es →
-      sumBodies size (bodiesAt b k es) ≡ weigh len k es
-  unfolding weigh
-  sizes-weigh k [] h = refl
-  sizes-weigh k (e ∷ es) h = by-label (eqb k (e .label)) (sizes-weigh k es (h .1))
-    where
-      by-label : (x : Bool) → sumBodies size (bodiesAt b k es) ≡ weigh len k es →
-          sumBodies size (cond x (bodyAt b e ∷ bodiesAt b k es) (bodiesAt b k es))
-          ≡ cond x (e .len) 0 + weigh len k es
-      by-label true ih = let s = h .0 in omega arith
-      by-label false ih = omega arith
-
-  total-weighs : (es : List Entry) (rs : List TemplateRecord) → All (λ e. size (bodyAt b e) ≡ e .len) es →
-      byteTotal (templatesAt b es rs) ≡ weighAll len rs es
-  unfolding weighAll
-  total-weighs es [] h = refl
-  total-weighs es (r ∷ rs) h = omega (arith, total-weighs es rs h, sizes-weigh (r .label) es h)
 
 -- bodies that do not overlap are together no longer than the place they lie in
 owned-within : (rs : List TemplateRecord) (from most : ℕ) (es : List Entry) → from ≤ most → Placed from most es →
@@ -167,7 +141,7 @@ module _ (t : Table) (b : List ℕ) where
     Legal = LegalRecord (t .limits) (t .entries)
 
     each : (P : Template → Type 0) → ((r : TemplateRecord) → Legal r → P (templateAt b (t .entries) r)) →
-        Lists.All P templates
+        All P templates
     each P f = all-templates b (t .entries) P (all t) (all-map Legal _ f (all t) (h .records-legal))
 
     table-within : length (t .held) + length (t .handed) ≤ t .limits .«max_pending_flows» →
@@ -185,7 +159,7 @@ module _ (t : Table) (b : List ℕ) where
           few = omega (arith, length-templates b es rs, length-append (t .held) (t .handed));
           caps = each (λ u. length (u .bodies) ≤ most)
               (λ r x. omega (arith, x .count-right, x .within-cap, length-bodies b (r .label) es));
-          small = each (λ u. Lists.All Small (u .bodies)) (λ r x. all-bodies b Small (r .label) es small);
+          small = each (λ u. All Small (u .bodies)) (λ r x. all-bodies b Small (r .label) es small);
           room = omega (
             arith,
             total-weighs b es rs sizes,
@@ -263,7 +237,7 @@ module _ (t : Table) (b is : List ℕ) (tied : Tied (t .held ++ t .handed) (t .e
       all-both _ _ (λ e. e .len ≤ t .limits .«max_entry_size_bytes») (λ e x y. omega arith) es
       (sized b 0 (t .limits .«max_total_bytes») es lent placed)
       (all-entries b Small (all t) es (tied .labels-known)
-      (all-records b es (λ u. Lists.All Small (u .bodies)) (all t) (within .small)))
+      (all-records b es (λ u. All Small (u .bodies)) (all t) (within .small)))
 
   pub tied-legal : LegalTable t is × (length (t .held) + length (t .handed) ≤ t .limits .«max_pending_flows»)
       × (length (t .entries) ≤ maxBodies (t .limits))

@@ -8,10 +8,11 @@ use lib.Dec.{eqb, leb, ltb}
 use lib.ListN.{length, getD, drop, length-take, length-drop, length-set}
 use lib.Seq.{drop-nil, getD-set-same, getD-set-other}
 use borrow.Author.Tests.{eqb-true, eqb-false, ltb-true, ltb-false}
+use Rattle.config.proofs.Lists.{All}
 use Rattle.table.specs.declared.Entry.{Entry}
 use Rattle.table.specs.Table.{tally}
 use Rattle.table.specs.Passes.{lessAt}
-use Rattle.table.proofs.Facts.{All, Placed}
+use Rattle.table.proofs.Facts.{Placed}
 use Rattle.table_entries.specs.declared.StayTest.{StayTest}
 use Rattle.table_entries.specs.Stays.{stays}
 use Rattle.table_entries.specs.Sweep.{swept}
@@ -34,6 +35,18 @@ placed-within from most (e ∷ es) p = (p .1, placed-within (e .place + e .len) 
 
 pub body-size : (b : List ℕ) (e : Entry) → e .place + e .len ≤ length b → size (bodyAt b e) ≡ e .len
 body-size b e h = omega (arith, length-take (e .len) (drop (e .place) b), length-drop (e .place) b)
+
+-- tests that agree on every entry's body keep the same bodies
+pub keep-alike : (b : List ℕ) (f g : Body → Bool) (k : ℕ) (es : List Entry) →
+    All (λ e. f (bodyAt b e) ≡ g (bodyAt b e)) es → keep f (bodiesAt b k es) ≡ keep g (bodiesAt b k es)
+keep-alike b f g k [] a = refl
+keep-alike b f g k (e ∷ es) a = by-label (eqb k (e .label)) (keep-alike b f g k es (a .1))
+  where
+    by-label : (x : Bool) → keep f (bodiesAt b k es) ≡ keep g (bodiesAt b k es) →
+        keep f (cond x (bodyAt b e ∷ bodiesAt b k es) (bodiesAt b k es))
+        ≡ keep g (cond x (bodyAt b e ∷ bodiesAt b k es) (bodiesAt b k es))
+    by-label true ih = rw (a .0, ih)
+    by-label false ih = ih
 
 -- one body is skipped, and one less is to be skipped of those behind it
 drop-less : (n : ℕ) (x : Body) (xs : List Body) → 0 < n → drop (n - 1) xs ≡ drop n (x ∷ xs)

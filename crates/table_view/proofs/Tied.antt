@@ -1,20 +1,22 @@
 -- Records, entries and index that belong together, whatever the limits: what a well-formed table has, and what is left
 -- of it while the entries of one label have no record yet. Assumes nothing.
 use mathlib.Core.Path.{_≡_, refl, sym, ap, _∙_}
-use mathlib.Core.Bool.{Bool, true, false, _||_, false≢true}
+use mathlib.Core.Bool.{true, false, _||_}
 use mathlib.Core.List.{List, [], _∷_, _++_}
 use Prim.Native.Nat.{ℕ, _+_, _<_}
 use native.Mathlib.Omega.{arith}
 use lib.Dec.{eqb}
 use lib.ListN.{length, take-append-drop}
 use borrow.Author.Tests.{eqb-true}
+use Rattle.config.proofs.Lists.{All, all-map}
+use Rattle.config.proofs.Tests.{or-first, or-other}
 use Rattle.table.specs.declared.Entry.{Entry}
 use Rattle.table.specs.declared.TemplateRecord.{TemplateRecord}
 use Rattle.table.specs.Layout.{limitsOf, heldCount, chanceCount, recordsAt}
 use Rattle.table.specs.Table.{Table, tableOf, records, index, hasLabel, tally}
 use Rattle.table.specs.WellFormed.{indexRises}
 use Rattle.table.proofs.Words.{length-records, length-index}
-use Rattle.table.proofs.Facts.{All, all-map, Differ, LegalRecord, LegalEntry, LegalTable, LegalWords}
+use Rattle.table.proofs.Facts.{Differ, LegalRecord, LegalEntry, LegalTable, LegalWords}
 use Rattle.table.proofs.Labels.{label-says, tally-here, tally-later}
 
 pub record Tied (rs : List TemplateRecord) (es : List Entry) (is : List ℕ) : Type 0 where
@@ -82,18 +84,6 @@ entries-small rs es small known =
 pub none-above : (es : List Entry) → All (λ e. e .label < 1024) es → tally 1024 es ≡ 0
 none-above [] h = refl
 none-above (e ∷ es) h = tally-later 1024 e es (λ d. omega (arith, h .0)) ∙ none-above es (h .1)
-
-pub or-first : (s t : Bool) → s ≡ true → s || t ≡ true
-or-first true t h = refl
-or-first false t h = absurd (false≢true h)
-
-pub or-second : (s t : Bool) → t ≡ true → s || t ≡ true
-or-second true t h = refl
-or-second false t h = h
-
-or-other : (s t : Bool) → s || t ≡ true → (t ≡ true → ⊥) → s ≡ true
-or-other true t h no-t = refl
-or-other false t h no-t = absurd (no-t h)
 
 -- where no entry has the label a, nothing is apart
 pub apart-tied : {a : ℕ} {rs : List TemplateRecord} {es : List Entry} {is : List ℕ} → TiedApart a rs es is →

@@ -2,24 +2,24 @@
 use mathlib.Core.Path.{_≡_, refl, ap, sym, _∙_}
 use mathlib.Core.Logic.{_≢_}
 use mathlib.Core.Bool.{Bool, true, false, cond}
-use mathlib.Core.List.{List, [], _∷_, _++_}
-use Prim.Native.Nat.{ℕ, _+_, _≤_, _<_}
+use mathlib.Core.List.{List, [], _∷_}
+use Prim.Native.Nat.{ℕ, _+_}
 use native.Mathlib.Omega.{arith}
 use lib.Dec.{eqb}
 use lib.ListN.{length}
 use borrow.Author.Tests.{eqb-true, eqb-false, eq-eqb, ne-eqb}
+use Rattle.config.proofs.Lists.{All}
 use Rattle.table.specs.declared.Entry.{Entry}
 use Rattle.table.specs.declared.TemplateRecord.{TemplateRecord}
 use Rattle.table.specs.Table.{hasLabel, sumLens}
-use Rattle.table.specs.Passes.{heldLen, firstLabel}
-use Rattle.table.proofs.Facts.{All, Differ}
-use Rattle.table.proofs.Labels.{absent-holds, sumBut, held-lens}
+use Rattle.table.specs.Passes.{heldLen}
+use Rattle.table.proofs.Facts.{Differ}
+use Rattle.table.proofs.Labels.{absent-holds}
 use Rattle.table_entries.specs.Sums.{heldSum}
 use Rattle.cache_model.specs.Bodies.{Body, size, sumBodies, sumTemplates}
 use Rattle.pending_flows.specs.View.{bodyAt, bodiesAt, templatesAt}
 use Rattle.pending_flows.proofs.Weights.{weigh, weighAll, weighOwned, weights-agree}
 use Rattle.table_view.proofs.Swept.{Within, body-size}
-use Rattle.table_entries.proofs.Lengths.{lensSum}
 
 -- whatever a body weighs: the bodies of templates, template by template, and entry by entry
 module _ (b : List ℕ) (w : Body → ℕ) where
@@ -66,12 +66,6 @@ pub other-adds : (out : ℕ) (e : Entry) → e .label ≢ out → heldLen out e 
 unfolding heldLen
 other-adds out e l = rw (ne-eqb (e .label) out l)
 
--- where no entry is of the label out, all lengths
-pub held-sum-all : (out : ℕ) (es : List Entry) → All (λ e. e .label ≢ out) es → heldSum out es ≡ lensSum es
-unfolding heldSum lensSum
-held-sum-all out [] h = refl
-held-sum-all out (e ∷ es) h = omega (arith, other-adds out e (h .0), held-sum-all out es (h .1))
-
 -- where the entries that are not of the label out belong to these records, and no other does
 module _ (out : ℕ) (rs : List TemplateRecord) (other : All (λ r. out ≢ r .label) rs) where
   held-len : (e : Entry) → (e .label ≢ out → hasLabel (e .label) rs ≡ true) →
@@ -97,15 +91,3 @@ module _ (out : ℕ) (rs : List TemplateRecord) (other : All (λ r. out ≢ r .l
       All (λ e. e .label ≢ out → hasLabel (e .label) rs ≡ true) es →
       heldSum out es ≡ sumTemplates size (templatesAt b es rs)
   held-sum-total b es d w h = held-sum-lens es h ∙ lens-total b rs es d w
-
--- in a table, whose handed-out record stands behind the held ones
-pub held-sum-but : (out : ℕ) (es : List Entry) → heldSum out es ≡ sumBut out es
-unfolding heldSum sumBut
-held-sum-but out [] = refl
-held-sum-but out (e ∷ es) = ap (λ (n : ℕ). heldLen out e + n) (held-sum-but out es)
-
-pub table-held-sum : (held handed : List TemplateRecord) (es : List Entry) → length handed ≤ 1 →
-    Differ (λ r. r .label) (held ++ handed) → All (λ r. r .label < 1024) (held ++ handed) →
-    All (λ e. hasLabel (e .label) (held ++ handed) ≡ true) es → heldSum (firstLabel handed) es ≡ sumLens held es
-table-held-sum held handed es single d small h =
-    held-sum-but (firstLabel handed) es ∙ sym (held-lens held handed es single d small h)

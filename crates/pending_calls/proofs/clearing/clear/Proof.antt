@@ -1,6 +1,6 @@
-use Rattle.pending_calls.proofs.Performed.{well-formed}
 use Rattle.pending_calls.proofs.Clearings.{clear-done, clear-damaged}
 use borrow.Author.Needs.{needs}
+use Rattle.pending_flows.proofs.Questions.{well-formed}
 use Rattle.pending_calls.proofs.clearing.clear.Statement.{statement}
 use Rattle.pending_calls.proofs.clearing.clear.Tie as tie
 

@@ -1,6 +1,6 @@
-use Rattle.pending_calls.proofs.Performed.{header-within}
 use Rattle.pending_calls.proofs.Clearings.{header-emptied}
 use borrow.Author.Needs.{needs}
+use Rattle.pending_flows.proofs.Questions.{header-within}
 use Rattle.pending_calls.proofs.clearing.clear_cache.Statement.{statement}
 use Rattle.pending_calls.proofs.clearing.clear_cache.Tie as tie
 

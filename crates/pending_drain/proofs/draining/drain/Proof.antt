@@ -1,6 +1,6 @@
-use Rattle.pending_calls.proofs.Performed.{well-formed}
 use Rattle.pending_drain.proofs.Drains.{drain-handed, drain-damaged}
 use borrow.Author.Needs.{needs}
+use Rattle.pending_flows.proofs.Questions.{well-formed}
 use Rattle.pending_drain.proofs.draining.drain.Statement.{statement}
 use Rattle.pending_drain.proofs.draining.drain.Tie as tie
 

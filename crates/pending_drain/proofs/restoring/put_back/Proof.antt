@@ -1,7 +1,6 @@
 use native.Mathlib.Omega.{arith}
 use borrow.Author.Needs.{needs}
-use Rattle.pending_flows.proofs.Questions.{bodies-few}
-use Rattle.pending_calls.proofs.Performed.{header-within}
+use Rattle.pending_flows.proofs.Questions.{bodies-few, header-within}
 use Rattle.pending_drain.proofs.AsRead.{rows-room, records-few}
 use Rattle.pending_drain.proofs.Restores.{count-small, Settling, settling, put-back-written}
 use Rattle.pending_drain.proofs.restoring.put_back.Statement.{statement}

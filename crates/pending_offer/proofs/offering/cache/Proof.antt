@@ -1,5 +1,5 @@
 use borrow.Author.Needs.{needs}
-use Rattle.pending_calls.proofs.Performed.{well-formed}
+use Rattle.pending_flows.proofs.Questions.{well-formed}
 use Rattle.pending_offer.proofs.Offered.{offer-damaged, offer-done}
 use Rattle.pending_offer.proofs.offering.cache.Statement.{statement}
 use Rattle.pending_offer.proofs.offering.cache.Tie as tie

@@ -1,5 +1,5 @@
 use borrow.Author.Needs.{needs}
-use Rattle.pending_calls.proofs.Performed.{header-within}
+use Rattle.pending_flows.proofs.Questions.{header-within}
 use Rattle.pending_offer.proofs.Offered.{too-long-offer, not-too-long}
 use Rattle.pending_offer.proofs.offering.offer.Statement.{statement}
 use Rattle.pending_offer.proofs.offering.offer.Tie as tie

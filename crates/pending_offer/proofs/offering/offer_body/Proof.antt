@@ -1,6 +1,6 @@
 use mathlib.Core.Path.{refl}
 use borrow.Author.Needs.{needs}
-use Rattle.pending_calls.proofs.Performed.{header-within}
+use Rattle.pending_flows.proofs.Questions.{header-within}
 use Rattle.pending_offer.proofs.Refused.{Refusing, refused-settles, refused-fewer, drops-fit, refused-does}
 use Rattle.pending_offer.proofs.Offered.{size-within, cached-offer, full-offer}
 use Rattle.pending_offer.proofs.offering.offer_body.Statement.{statement}

@@ -1,9 +1,19 @@
--- Tests joined by `&&`. Assumes nothing.
+-- Tests joined by `&&` and `||`, and choices by a test. Assumes nothing.
 use mathlib.Core.Path.{_≡_, refl, sym}
-use mathlib.Core.Bool.{Bool, true, false, _&&_, false≢true}
+use mathlib.Core.Bool.{Bool, true, false, _&&_, _||_, cond, false≢true}
 use Prim.Native.Nat.{ℕ, _≤_}
 use lib.Dec.{leb}
 use borrow.Author.Tests.{le-leb, leb-true}
+
+-- a choice has what both its sides have
+pub by-case : {A : Type 0} (P : A → Type 0) (t : Bool) {x y : A} → (t ≡ true → P x) → (t ≡ false → P y) →
+    P (cond t x y)
+by-case P true f g = f refl
+by-case P false f g = g refl
+
+pub cond-of : {A B : Type 0} (g : A → B) (t : Bool) (x y : A) → g (cond t x y) ≡ cond t (g x) (g y)
+cond-of g true x y = refl
+cond-of g false x y = refl
 
 pub and-left : (s t : Bool) → s && t ≡ true → s ≡ true
 and-left true t e = refl
@@ -25,6 +35,18 @@ and-fails false t e = refl
 pub and-holds : (r s t : Bool) → s ≡ true → r ≡ t → r ≡ s && t
 and-holds r true t e f = f
 and-holds r false t e f = absurd (false≢true e)
+
+pub or-first : (s t : Bool) → s ≡ true → s || t ≡ true
+or-first true t e = refl
+or-first false t e = absurd (false≢true e)
+
+pub or-second : (s t : Bool) → t ≡ true → s || t ≡ true
+or-second true t e = refl
+or-second false t e = e
+
+pub or-other : (s t : Bool) → s || t ≡ true → (t ≡ true → ⊥) → s ≡ true
+or-other true t e d = refl
+or-other false t e d = absurd (d e)
 
 -- two tests that hold in the same cases
 pub same-test : (s t : Bool) → (s ≡ true → t ≡ true) → (t ≡ true → s ≡ true) → s ≡ t
