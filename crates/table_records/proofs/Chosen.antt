@@ -9,54 +9,36 @@ use Rattle.config.specs.Limits.{recordWords}
 use Rattle.table.specs.declared.TemplateRecord.{TemplateRecord}
 use Rattle.table.specs.Table.{recordAt, recordsFrom}
 use Rattle.table.proofs.Words.{records-first, records-none}
-use Rattle.table_records.specs.Choose.{skipAll, skipping, skippingOver, evictionsOf, liveRecords, firstLive}
+use Rattle.table_records.specs.Choose.{setEach, evictionsOf, liveRecords, firstLive}
 use Rattle.table_records.specs.Choose.{freeLabel}
 
--- `left` records are left, from word p on, within the words
-pub record Skipped (w skip₀ skip : List ℕ) (from records p left : ℕ) : Type 0 where
+-- At each record's label is set what f says of it. `left` records are left, from word p on, within the words.
+pub record EachSet (f : TemplateRecord → ℕ) (w sums₀ sums : List ℕ) (from records p left : ℕ) : Type 0 where
   pub within : p + recordWords * left ≤ length w
-  pub same : skipping skip (recordsFrom w p left) ≡ skipping skip₀ (recordsFrom w from records)
+  pub same : setEach f sums (recordsFrom w p left) ≡ setEach f sums₀ (recordsFrom w from records)
 
-pub none-skipped : (w skip : List ℕ) (from records : ℕ) → from + recordWords * records ≤ length w →
-    Skipped w skip skip from records from records
-none-skipped w skip from records h = record { within = h; same = refl }
+pub none-set : (f : TemplateRecord → ℕ) (w sums : List ℕ) (from records : ℕ) →
+    from + recordWords * records ≤ length w → EachSet f w sums sums from records from records
+none-set f w sums from records h = record { within = h; same = refl }
 
-module _ {w skip₀ skip : List ℕ} {from records p left : ℕ} (inv : Skipped w skip₀ skip from records p left) where
-  pub all-skipped : left ≤ 0 → skip ≡ skipping skip₀ (recordsFrom w from records)
-  unfolding skipping
-  all-skipped h = rw (records-none w p left h) at (inv .same)
+module _ {f : TemplateRecord → ℕ} {w sums₀ sums : List ℕ} {from records p left : ℕ}
+    (inv : EachSet f w sums₀ sums from records p left) where
+  pub all-set : left ≤ 0 → sums ≡ setEach f sums₀ (recordsFrom w from records)
+  unfolding setEach
+  all-set h = rw (records-none w p left h) at (inv .same)
 
-  pub record-skipped : (r : TemplateRecord) (skip′ : List ℕ) → 0 < left → r ≡ recordAt w p →
-      skip′ ≡ set skip (r .label) skipAll → Skipped w skip₀ skip′ from records (p + recordWords) (left - 1)
-  unfolding skipping
-  record-skipped r skip′ more is stored = record {
+  pub record-set : (r : TemplateRecord) (n : ℕ) (sums′ : List ℕ) → 0 < left → r ≡ recordAt w p → n ≡ f r →
+      sums′ ≡ set sums (r .label) n → EachSet f w sums₀ sums′ from records (p + recordWords) (left - 1)
+  unfolding setEach
+  record-set r n sums′ more is says stored = record {
     within = omega (arith, inv .within);
-    same = rw stored (rw (records-first w p left more r is) at (inv .same));
+    same = rw (stored, says) (rw (records-first w p left more r is) at (inv .same));
   }
 
-pub record OverSkipped (w : List ℕ) (cap : ℕ) (counts skip₀ skip : List ℕ) (from records p left : ℕ) : Type 0 where
-  pub within : p + recordWords * left ≤ length w
-  pub same : skippingOver cap counts skip (recordsFrom w p left)
-      ≡ skippingOver cap counts skip₀ (recordsFrom w from records)
-
-pub none-over : (w : List ℕ) (cap : ℕ) (counts skip : List ℕ) (from records : ℕ) →
-    from + recordWords * records ≤ length w → OverSkipped w cap counts skip skip from records from records
-none-over w cap counts skip from records h = record { within = h; same = refl }
-
-module _ {w : List ℕ} {cap : ℕ} {counts skip₀ skip : List ℕ} {from records p left : ℕ}
-    (inv : OverSkipped w cap counts skip₀ skip from records p left) where
-  pub all-over : left ≤ 0 → skip ≡ skippingOver cap counts skip₀ (recordsFrom w from records)
-  unfolding skippingOver
-  all-over h = rw (records-none w p left h) at (inv .same)
-
-  pub record-over : (r : TemplateRecord) (count over : ℕ) (skip′ : List ℕ) → 0 < left → r ≡ recordAt w p →
-      count ≡ getD counts (r .label) 0 → over ≡ count - cap → skip′ ≡ set skip (r .label) over →
-      OverSkipped w cap counts skip₀ skip′ from records (p + recordWords) (left - 1)
-  unfolding skippingOver
-  record-over r count over skip′ more is counted less stored = record {
-    within = omega (arith, inv .within);
-    same = rw (stored, less, counted) (rw (records-first w p left more r is) at (inv .same));
-  }
+-- the bodies beyond a cap, by what the label's count is
+pub beyond-cap : (cap label count over : ℕ) (counts : List ℕ) → count ≡ getD counts label 0 → over ≡ count - cap →
+    over ≡ getD counts label 0 - cap
+beyond-cap cap label count over counts counted less = rw counted at less
 
 -- so many go, and then those of the ones that are left
 pub record Evicted (w : List ℕ) (room : ℕ) (sizes : List ℕ) (total from records evicted held p left : ℕ) : Type 0

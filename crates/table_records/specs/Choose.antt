@@ -1,7 +1,7 @@
 -- What is chosen by looking at the records alone, with sums by label beside them. Nothing is written.
 use mathlib.Core.List.{List, [], _∷_}
 use mathlib.Core.Bool.{cond}
-use Prim.Native.Nat.{ℕ, zero, suc, _+_, _-_}
+use Prim.Native.Nat.{ℕ, zero, suc, _+_, _-_, min}
 use lib.Dec.{eqb, ltb}
 use lib.ListN.{getD, set}
 use Rattle.table.specs.declared.TemplateRecord.{TemplateRecord}
@@ -10,16 +10,26 @@ use Rattle.table.specs.declared.TemplateRecord.{TemplateRecord}
 abbrev pub skipAll : ℕ
 skipAll = 262144
 
+-- at the label of each of these records, what f says of the record
+unfoldable pub setEach : (TemplateRecord → ℕ) → List ℕ → List TemplateRecord → List ℕ
+setEach f sums [] = sums
+setEach f sums (r ∷ rs) = setEach f (set sums (r .label) (f r)) rs
+
 -- all bodies of these records are to be skipped
-unfoldable pub skipping : List ℕ → List TemplateRecord → List ℕ
-skipping skip [] = skip
-skipping skip (r ∷ rs) = skipping (set skip (r .label) skipAll) rs
+abbrev pub skipping : List ℕ → List TemplateRecord → List ℕ
+skipping skip rs = setEach (λ r. skipAll) skip rs
 
 -- of each of these records, the bodies beyond a cap, where `counts` says how many there are
-unfoldable pub skippingOver : ℕ → List ℕ → List ℕ → List TemplateRecord → List ℕ
-skippingOver cap counts skip [] = skip
-skippingOver cap counts skip (r ∷ rs) =
-    skippingOver cap counts (set skip (r .label) (getD counts (r .label) 0 - cap)) rs
+abbrev pub skippingOver : ℕ → List ℕ → List ℕ → List TemplateRecord → List ℕ
+skippingOver cap counts skip rs = setEach (λ r. getD counts (r .label) 0 - cap) skip rs
+
+-- a count, up to the largest 32-bit number
+abbrev pub cappedCount : ℕ → ℕ
+cappedCount n = min n 4294967295
+
+-- what these records count
+abbrev pub recordCounts : List ℕ → List TemplateRecord → List ℕ
+recordCounts sums rs = setEach (λ r. cappedCount (r .count)) sums rs
 
 -- how many least recent templates go until the total is at most `room`, where `sizes` has the bytes of each label
 unfoldable pub evictionsOf : ℕ → List ℕ → ℕ → List TemplateRecord → ℕ

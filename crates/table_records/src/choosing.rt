@@ -4,8 +4,8 @@ ghost use Prim.Native.Nat.{_+_, _*_, _-_, _≤_};
 ghost use lib.ListN.{length};
 ghost use Rattle.config.specs.Limits.{recordWords};
 ghost use Rattle.table.specs.Table.{recordsFrom};
-ghost use Rattle.table_records.specs.Choose.{skipping, skippingOver, evictionsOf, liveRecords, firstLive};
-ghost use Rattle.table_records.specs.Choose.{freeLabel};
+ghost use Rattle.table_records.specs.Choose.{skipping, skippingOver, cappedCount, recordCounts};
+ghost use Rattle.table_records.specs.Choose.{evictionsOf, liveRecords, firstLive, freeLabel};
 use super::sums::set_sum;
 use super::sums::sum_of;
 use config::RECORD_WORDS;
@@ -58,6 +58,33 @@ pub fn skip_over(
         let label = record_at(words, p).label;
         let over = beyond(sum_of(counts, label) as u64, cap as u64);
         set_sum(skip, label, over as u32);
+        left -= 1;
+        p += RECORD_WORDS;
+    }
+}
+
+// A record's count as a sum by label, which stops at the largest 32-bit number.
+fn capped_count(count: u64) -> u32
+    ensures { λ r. ⌜ r ≡ cappedCount count ⌝ }
+{
+    if 4294967295 < count {
+        return 4294967295;
+    }
+    count as u32
+}
+
+// Sets what each record counts at its label.
+pub fn counts_by_label(words: &[u64], from: usize, records: usize, sums: &mut [u32; LABELS])
+    requires { ⌜ from + recordWords * records ≤ length (now words) ⌝ }
+    ensures { λ _.
+        ⌜ now (sums .exit) ≡ recordCounts (now (sums .entry)) (recordsFrom (now (words .entry)) from records) ⌝ }
+{
+    let mut left = records;
+    let mut p = from;
+    while left > 0 {
+        let template = record_at(words, p);
+        let bodies = capped_count(template.count);
+        set_sum(sums, template.label, bodies);
         left -= 1;
         p += RECORD_WORDS;
     }

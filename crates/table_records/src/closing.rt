@@ -102,7 +102,7 @@ pub fn close(words: &mut [u64], from: usize, records: usize, kept: &[u32; LABELS
     requires { ⌜ (from + recordWords * records ≤ length (now words)) × (records ≤ 1024) ⌝ }
     ensures { λ r. ⌜ Closes from records (now (kept .entry)) (now (words .entry)) (now (words .exit)) r ⌝ }
 {
-    let mut positions = [NOWHERE; LABELS];
+    let mut positions = [0; LABELS];
     let remain = close_records(words, from, records, kept, &mut positions);
     close_index(words, from, records, &positions[..records]);
     remain

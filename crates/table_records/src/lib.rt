@@ -5,6 +5,7 @@ mod closing;
 mod sums;
 
 pub use adding::add_record;
+pub use choosing::counts_by_label;
 pub use choosing::evictions_of;
 pub use choosing::first_live;
 pub use choosing::free_label;

@@ -1,17 +1,19 @@
+use Prim.Native.Nat.{_-_}
+use lib.ListN.{getD}
 use borrow.Author.Needs.{needs}
-use Rattle.table_records.proofs.Chosen.{OverSkipped, none-over, record-over, all-over}
+use Rattle.table_records.proofs.Chosen.{EachSet, none-set, beyond-cap, record-set, all-set}
 use Rattle.table_records.proofs.choosing.skip_over.Statement.{statement}
 use Rattle.table_records.proofs.choosing.skip_over.Tie as tie
 
 abbrev Inv-loop : tie.InvT-loop
 Inv-loop words from records cap counts skip₀ left₀ p₀ skip left p =
-    OverSkipped words cap counts skip₀ skip from records p left
+    EachSet (λ r. getD counts (r .label) 0 - cap) words skip₀ skip from records p left
 
 abbrev μ-loop : tie.MeasureT-loop
 μ-loop words from records cap counts skip₀ left₀ p₀ skip left p = left
 
 loop-holds : tie.Need-loop-holds Inv-loop μ-loop
-loop-holds c = search (none-over, needs)
+loop-holds c = search (none-set, needs)
 
 record-at-requires : tie.Need-record-at-requires Inv-loop μ-loop
 record-at-requires c κs = search needs
@@ -41,10 +43,10 @@ loop-less : tie.Need-loop-less Inv-loop μ-loop
 loop-less c = search needs
 
 loop-again : tie.Need-loop-again Inv-loop μ-loop
-loop-again c = search (record-over, needs)
+loop-again c = search (record-set, beyond-cap, needs)
 
 returns : tie.Need-returns Inv-loop μ-loop
-returns c = search (all-over, needs)
+returns c = search (all-set, needs)
 
 pub skip-over-spec : {M : Type 1} → statement M
 skip-over-spec =

@@ -1,16 +1,17 @@
 use borrow.Author.Needs.{needs}
-use Rattle.table_records.proofs.Chosen.{Skipped, none-skipped, record-skipped, all-skipped}
+use Rattle.table_records.specs.Choose.{skipAll}
+use Rattle.table_records.proofs.Chosen.{EachSet, none-set, record-set, all-set}
 use Rattle.table_records.proofs.choosing.skip_records.Statement.{statement}
 use Rattle.table_records.proofs.choosing.skip_records.Tie as tie
 
 abbrev Inv-loop : tie.InvT-loop
-Inv-loop words from records skip₀ left₀ p₀ skip left p = Skipped words skip₀ skip from records p left
+Inv-loop words from records skip₀ left₀ p₀ skip left p = EachSet (λ r. skipAll) words skip₀ skip from records p left
 
 abbrev μ-loop : tie.MeasureT-loop
 μ-loop words from records skip₀ left₀ p₀ skip left p = left
 
 loop-holds : tie.Need-loop-holds Inv-loop μ-loop
-loop-holds c = search (none-skipped, needs)
+loop-holds c = search (none-set, needs)
 
 record-at-requires : tie.Need-record-at-requires Inv-loop μ-loop
 record-at-requires c κs = search needs
@@ -28,10 +29,10 @@ loop-less : tie.Need-loop-less Inv-loop μ-loop
 loop-less c = search needs
 
 loop-again : tie.Need-loop-again Inv-loop μ-loop
-loop-again c = search (record-skipped, needs)
+loop-again c = search (record-set, needs)
 
 returns : tie.Need-returns Inv-loop μ-loop
-returns c = search (all-skipped, needs)
+returns c = search (all-set, needs)
 
 pub skip-records-spec : {M : Type 1} → statement M
 skip-records-spec =
