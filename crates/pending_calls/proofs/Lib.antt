@@ -3,3 +3,4 @@ pub mod Headers
 pub mod Clearings
 pub mod Removals
 pub mod Removed
+pub mod NoneRemoved

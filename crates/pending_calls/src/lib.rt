@@ -8,4 +8,5 @@ pub use clearing::clear;
 pub use counters::raised;
 pub use removal::Removed;
 pub use removal::remove;
+pub use removal::remove_none;
 pub use removal::stay_all;

@@ -1,16 +1,23 @@
 // Removing bodies, once it is decided which.
 ghost use mathlib.Core.Path.{_≡_};
+ghost use mathlib.Core.Bool.{true};
 ghost use Prim.Native.Nat.{_+_, _*_, _≤_};
-ghost use lib.ListN.{length};
+ghost use lib.ListN.{length, replicate};
 ghost use Rattle.config.specs.Limits.{recordWords, entryWords};
-ghost use Rattle.table.specs.Layout.{entriesAt};
+ghost use Rattle.table.specs.Layout.{limitsOf, heldCount, entryCount, chanceCount, entriesAt, recordsAt};
+ghost use Rattle.table.specs.WellFormed.{wellFormed};
+ghost use Rattle.pending_flows.specs.Header.{figuresAt};
 ghost use Rattle.pending_calls.specs.Removal.{everything, Removes};
+use config::PendingFlowsConfig;
 use config::Ttl;
+use pending_flows::HeaderFigures;
 use table::LABELS;
+use table::records_at;
 use table_entries::StayTest;
 use table_entries::sums_by_label;
 use table_entries::sweep;
 use table_records::close;
+use table_records::counts_by_label;
 use table_records::set_sum;
 use table_records::sum_of;
 
@@ -59,6 +66,35 @@ pub fn remove(
     let remain = close(words, from, records, kept);
     Removed {
         entries: left,
+        records: remain,
+        apart: bodies,
+    }
+}
+
+// The removal where every body stays: no entry is looked at, since each label has the bodies that its record counts.
+pub fn remove_none(
+    words: &mut [u64],
+    bytes: &[u8],
+    limits: PendingFlowsConfig,
+    figures: HeaderFigures,
+    apart: u64,
+    kept: &mut [u32; LABELS],
+) -> Removed
+    requires { ⌜ (wellFormed (now words) (length (now bytes)) ≡ true) × (limits ≡ limitsOf (now words)) ⌝ }
+    requires { ⌜ (figures ≡ figuresAt (now words)) × (now kept ≡ replicate 1024 0) ⌝ }
+    ensures { λ r.
+        ⌜ Removes everything (recordsAt (limitsOf (now (words .entry)))) (heldCount (now (words .entry)) + chanceCount
+        (now (words .entry))) (entryCount (now (words .entry))) apart (replicate 1024 0) (replicate 1024 0)
+        (now (words .entry)) (now (words .exit)) (now (kept .exit)) r ⌝ }
+{
+    let from = records_at(limits);
+    let records = (figures.templates + figures.chance) as usize;
+    counts_by_label(words, from, records, kept);
+    let bodies = sum_of(kept, apart);
+    set_sum(kept, apart, 0);
+    let remain = close(words, from, records, kept);
+    Removed {
+        entries: figures.entries as usize,
         records: remain,
         apart: bodies,
     }

@@ -1,6 +1,6 @@
 -- What the sweep keeps: entries of the list, in their order, and of each label all that stay but those to skip.
 -- Assumes nothing.
-use mathlib.Core.Path.{_≡_}
+use mathlib.Core.Path.{_≡_, refl, ap}
 use mathlib.Core.Bool.{true, false}
 use mathlib.Core.List.{List, [], _∷_}
 use Prim.Native.Nat.{ℕ, suc, _+_, _≤_, _<_}
@@ -57,3 +57,10 @@ placed-swept q skip from most (e ∷ es) p =
     (λ _. lower (swept q skip es) (placed-swept q skip end most es (p .2)))
     (λ _ _. lower (swept q (lessAt skip (e .label)) es) (placed-swept q (lessAt skip (e .label)) end most es (p .2)))
     (λ _ _. (p .0, p .1, placed-swept q skip end most es (p .2)))
+
+-- where each stays and none is to be skipped, all are kept
+pub swept-all : (q : StayTest) (skip : List ℕ) (es : List Entry) → All (λ e. stays q e ≡ true) es →
+    All (λ e. getD skip (e .label) 0 ≡ 0) es → swept q skip es ≡ es
+unfolding swept
+swept-all q skip [] s n = refl
+swept-all q skip (e ∷ es) s n = rw (s .0, n .0) (ap (λ (l : List Entry). e ∷ l) (swept-all q skip es (s .1) (n .1)))

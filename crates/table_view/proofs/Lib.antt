@@ -9,3 +9,4 @@ pub mod Frames
 pub mod Appended
 pub mod Packed
 pub mod Totals
+pub mod AllStay
