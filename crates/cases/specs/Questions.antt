@@ -5,7 +5,7 @@ use Rattle.wire.specs.declared.Reading.{Reading}
 use Rattle.output_preflight.specs.Preflight.{Answer, cost, number, preflightOf}
 use Rattle.output_preflight.specs.declared.FieldValues.{FieldValues}
 use Rattle.output_preflight.specs.declared.PayloadBytes.{PayloadBytes}
-use Rattle.output_budget.specs.declared.budget.DecodedOutputBudget.{DecodedOutputBudget}
+use Rattle.output_budget.specs.declared.DecodedOutputBudget.{DecodedOutputBudget}
 use Rattle.output_budget.specs.Told.{Told}
 use Rattle.output_budget.specs.Budget.{reserveTold}
 use Rattle.config.specs.declared.PendingFlowsConfig.{PendingFlowsConfig}

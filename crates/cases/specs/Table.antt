@@ -6,11 +6,11 @@ use lib.ListN.{replicate}
 use Rattle.wire.specs.declared.Reading.the-variants.{V9Fixed, IpfixFixed, IpfixVariable}
 use Rattle.wire.specs.Size.{leastSize}
 use Rattle.wire.specs.Padding.{isComplete}
-use Rattle.output_preflight.specs.Field.{variableField, fieldOf}
-use Rattle.output_preflight.specs.Scan.{fieldsOf, recordOf, recordsFrom, figures, scanOf}
+use Rattle.output_scan.specs.Field.{variableField, fieldOf}
+use Rattle.output_scan.specs.Scan.{fieldsOf, recordOf, recordsFrom, figures, scanOf}
 use Rattle.output_preflight.specs.Preflight.{preflightOf}
-use Rattle.output_budget.specs.declared.budget.DecodedOutputBudget.{DecodedOutputBudget}
-use Rattle.output_budget.specs.declared.budget.Exceeded.the-variants as Exceeded
+use Rattle.output_budget.specs.declared.DecodedOutputBudget.{DecodedOutputBudget}
+use Rattle.output_budget.specs.declared.Exceeded.the-variants as Exceeded
 use Rattle.output_budget.specs.Budget.{reserveTold}
 use Rattle.config.specs.declared.PendingFlowsConfig.{PendingFlowsConfig}
 use Rattle.config.specs.declared.Ttl.the-variants.{None, After}

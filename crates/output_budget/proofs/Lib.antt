@@ -1,13 +1,4 @@
-pub mod ZeroLimits
 pub mod Sums
 pub mod Reservations
 pub mod Rollbacks
-pub mod Fits
-pub mod Reports
-pub mod Materials
-pub mod Loans
-pub mod Params
-pub mod Lend
-pub mod Loaned
-pub mod Refusals
 pub mod Checkpoints

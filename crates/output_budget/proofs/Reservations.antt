@@ -7,11 +7,11 @@ use lib.Dec.{ltb}
 use borrow.Author.Tests.{ltb-false}
 use Rattle.output_preflight.specs.declared.FieldValues.{FieldValues}
 use Rattle.output_preflight.specs.declared.PayloadBytes.{PayloadBytes}
-use Rattle.output_budget.specs.declared.budget.DecodedOutputBudget.{DecodedOutputBudget}
-use Rattle.output_budget.specs.declared.budget.OutputBudgetExceeded.{OutputBudgetExceeded}
-use Rattle.output_budget.specs.declared.budget.Exceeded as Recorded
-use Rattle.output_budget.specs.declared.budget.ReserveOutcome.{ReserveOutcome}
-use Rattle.output_budget.specs.declared.budget.ReserveAnswer.the-variants.{Reserved, Exceeded}
+use Rattle.output_budget.specs.declared.DecodedOutputBudget.{DecodedOutputBudget}
+use Rattle.output_budget.specs.declared.OutputBudgetExceeded.{OutputBudgetExceeded}
+use Rattle.output_budget.specs.declared.Exceeded as Recorded
+use Rattle.output_budget.specs.declared.ReserveOutcome.{ReserveOutcome}
+use Rattle.output_budget.specs.declared.ReserveAnswer.the-variants.{Reserved, Exceeded}
 use Rattle.output_budget.specs.Budget.{usedValues, usedPayload, withUse, grown, firstExcess, recorded}
 use Rattle.output_budget.specs.Budget.{attemptedSum, passesValues, passesPayload, valuesExcess, payloadExcess}
 use Rattle.output_budget.specs.Budget.{SumsWithin, reserveTold, reserveBudget, Reserves}

@@ -4,9 +4,9 @@ use Prim.Native.Nat.{_≤_, _<_}
 use borrow.Author.Tests.{lt-ltb, le-ltb}
 use Rattle.output_preflight.specs.declared.FieldValues.{FieldValues}
 use Rattle.output_preflight.specs.declared.PayloadBytes.{PayloadBytes}
-use Rattle.output_budget.specs.declared.budget.DecodedOutputBudget.{DecodedOutputBudget}
-use Rattle.output_budget.specs.declared.budget.Exceeded.the-variants.{None}
-use Rattle.output_budget.specs.declared.budget.RollbackAnswer.the-variants.{RolledBack, AboveUse}
+use Rattle.output_budget.specs.declared.DecodedOutputBudget.{DecodedOutputBudget}
+use Rattle.output_budget.specs.declared.Exceeded.the-variants.{None}
+use Rattle.output_budget.specs.declared.RollbackAnswer.the-variants.{RolledBack, AboveUse}
 use Rattle.output_budget.specs.Budget.{withUse, rollbackTold, rollbackBudget, RollsBack}
 
 module _ (b : DecodedOutputBudget) (v : FieldValues) (p : PayloadBytes) where

@@ -6,17 +6,17 @@ use Prim.Native.Nat.{ℕ, _+_, _-_, _≤_, _^_, min, max}
 use lib.Dec.{ltb, eqb}
 use Rattle.output_preflight.specs.declared.FieldValues.{FieldValues}
 use Rattle.output_preflight.specs.declared.PayloadBytes.{PayloadBytes}
-use Rattle.output_budget.specs.declared.budget.DecodedOutputLimit.{DecodedOutputLimit}
-use Rattle.output_budget.specs.declared.budget.DecodedOutputLimit.the-variants as Limit
-use Rattle.output_budget.specs.declared.budget.OutputBudgetExceeded.{OutputBudgetExceeded}
-use Rattle.output_budget.specs.declared.budget.Exceeded.{Exceeded}
-use Rattle.output_budget.specs.declared.budget.Exceeded.the-variants.{None, Recorded}
-use Rattle.output_budget.specs.declared.budget.DecodedOutputBudget.{DecodedOutputBudget}
-use Rattle.output_budget.specs.declared.budget.OutputCounts.{OutputCounts}
-use Rattle.output_budget.specs.declared.budget.ReserveAnswer.{ReserveAnswer}
-use Rattle.output_budget.specs.declared.budget.ReserveAnswer.the-variants as Reserve
-use Rattle.output_budget.specs.declared.budget.RollbackAnswer.{RollbackAnswer}
-use Rattle.output_budget.specs.declared.budget.RollbackAnswer.the-variants as Rollback
+use Rattle.output_budget.specs.declared.DecodedOutputLimit.{DecodedOutputLimit}
+use Rattle.output_budget.specs.declared.DecodedOutputLimit.the-variants as Limit
+use Rattle.output_budget.specs.declared.OutputBudgetExceeded.{OutputBudgetExceeded}
+use Rattle.output_budget.specs.declared.Exceeded.{Exceeded}
+use Rattle.output_budget.specs.declared.Exceeded.the-variants.{None, Recorded}
+use Rattle.output_budget.specs.declared.DecodedOutputBudget.{DecodedOutputBudget}
+use Rattle.output_budget.specs.declared.OutputCounts.{OutputCounts}
+use Rattle.output_budget.specs.declared.ReserveAnswer.{ReserveAnswer}
+use Rattle.output_budget.specs.declared.ReserveAnswer.the-variants as Reserve
+use Rattle.output_budget.specs.declared.RollbackAnswer.{RollbackAnswer}
+use Rattle.output_budget.specs.declared.RollbackAnswer.the-variants as Rollback
 use Rattle.output_budget.specs.Told.{Told, done, refusal}
 
 -- a budget as it opens: nothing used, nothing recorded
@@ -59,6 +59,10 @@ usedPayload b = b .«used_payload_bytes» .0
 abbrev pub useOf : DecodedOutputBudget → OutputCounts
 useOf b = record { values = b .«used_values»; «payload_bytes» = b .«used_payload_bytes» }
 
+-- document 01's "whole budget": both limits
+abbrev pub wholeOf : DecodedOutputBudget → OutputCounts
+wholeOf b = record { values = b .«max_values»; «payload_bytes» = b .«max_payload_bytes» }
+
 -- document 01's "what remains" in each count: the limit less the use, or 0 where the use is above the limit
 abbrev pub remainingOf : DecodedOutputBudget → OutputCounts
 remainingOf b = record {
@@ -71,7 +75,7 @@ abbrev pub grown : DecodedOutputBudget → FieldValues → PayloadBytes → Deco
 grown b v p =
     withUse b (record { 0 = usedValues b + v .0 }) (record { 0 = usedPayload b + p .0 }) (b .exceeded)
 
--- what the callers of the private `grow` have tested: each sum is at most the limit, or the use where that is above
+-- what the callers of `grow` have tested: each sum is at most the limit, or the use where that is above
 pub record SumsWithin (b : DecodedOutputBudget) (v : FieldValues) (p : PayloadBytes) : Type 0 where
   pub values : usedValues b + v .0 ≤ max (maxValues b) (usedValues b)
   pub payload : usedPayload b + p .0 ≤ max (maxPayload b) (usedPayload b)

@@ -1,4 +1,2 @@
 pub mod Told
-pub mod Limits
 pub mod Budget
-pub mod Pending

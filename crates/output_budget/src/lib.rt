@@ -1,5 +1,296 @@
-// Cumulative decoded-output accounting shared by NetFlow v9 and IPFIX (output_budget.rs).
-pub mod budget;
-pub mod lent;
-pub mod limits;
-pub mod pending;
+// The decoded-output budget of one message: two counts, each with its limit, and the first excess.
+use output_preflight::FieldValues;
+use output_preflight::PayloadBytes;
+ghost use mathlib.Core.Path.{_≡_};
+ghost use Prim.Native.Nat.{_+_, _-_};
+ghost use lib.Dec.{ltb};
+ghost use Rattle.output_budget.specs.Budget.{opened, useOf, remainingOf, isRecorded, Takes, Reserves, RollsBack};
+ghost use Rattle.output_budget.specs.Budget.{withUse, grown, SumsWithin, attemptedSum, firstExcess, recorded};
+
+// Which limit an excess is of.
+pub enum DecodedOutputLimit {
+    FieldValues,
+    FieldPayloadBytes,
+}
+
+// A reservation that would have passed a limit: which one, its figure, and the sum that was attempted.
+pub struct OutputBudgetExceeded {
+    pub limit: DecodedOutputLimit,
+    pub configured: usize,
+    pub attempted: usize,
+}
+
+// The first excess since the budget was opened or rolled back.
+pub enum Exceeded {
+    None,
+    Recorded(OutputBudgetExceeded),
+}
+
+// Both limits, both counts in use, and the first excess. The use may be above a limit.
+pub struct DecodedOutputBudget {
+    pub max_values: FieldValues,
+    pub max_payload_bytes: PayloadBytes,
+    pub used_values: FieldValues,
+    pub used_payload_bytes: PayloadBytes,
+    pub exceeded: Exceeded,
+}
+
+// A pair of counts: those in use, a checkpoint of them, or what remains.
+pub struct OutputCounts {
+    pub values: FieldValues,
+    pub payload_bytes: PayloadBytes,
+}
+
+// What `reserve` answers: nothing is reserved where a limit would be passed.
+pub enum ReserveAnswer {
+    Reserved,
+    Exceeded(OutputBudgetExceeded),
+}
+
+// What `rollback` answers: nothing is changed where a count is above the one in use.
+pub enum RollbackAnswer {
+    RolledBack,
+    AboveUse,
+}
+
+// What `take_exceeded` answers, and the budget after it.
+pub struct TakeOutcome {
+    pub answer: Exceeded,
+    pub budget: DecodedOutputBudget,
+}
+
+// What `reserve` answers, and the budget after it.
+pub struct ReserveOutcome {
+    pub answer: ReserveAnswer,
+    pub budget: DecodedOutputBudget,
+}
+
+// What `rollback` answers, and the budget after it.
+pub struct RollbackOutcome {
+    pub answer: RollbackAnswer,
+    pub budget: DecodedOutputBudget,
+}
+
+// The largest count, 2^64 - 1.
+const LARGEST: usize = 18446744073709551615;
+
+// What is left of a limit, or 0 where more than the limit is in use.
+fn left(max: usize, used: usize) -> usize
+    ensures { λ r. ⌜ r ≡ max - used ⌝ }
+{
+    if max < used {
+        return 0;
+    }
+    max - used
+}
+
+// Whether the sum is above the limit, also where it is above 2^64 - 1.
+fn passes(max: usize, used: usize, more: usize) -> bool
+    ensures { λ r. ⌜ r ≡ ltb max (used + more) ⌝ }
+{
+    if max < used {
+        return true;
+    }
+    if max - used < more {
+        return true;
+    }
+    false
+}
+
+// The sum, or the largest count where the sum is above it.
+fn attempted(used: usize, more: usize) -> usize
+    ensures { λ r. ⌜ r ≡ attemptedSum used more ⌝ }
+{
+    if more <= LARGEST - used {
+        return used + more;
+    }
+    LARGEST
+}
+
+// What is recorded once `excess` happens: the first one stays.
+fn first(kept: Exceeded, excess: OutputBudgetExceeded) -> Exceeded
+    ensures { λ r. ⌜ r ≡ firstExcess kept excess ⌝ }
+{
+    match kept {
+        Exceeded::None => Exceeded::Recorded(excess),
+        Exceeded::Recorded(_) => kept,
+    }
+}
+
+impl DecodedOutputBudget {
+    // Any two limits, 0 included; nothing used, nothing recorded.
+    pub fn new(max_values: FieldValues, max_payload_bytes: PayloadBytes) -> Self
+        ensures { λ r. ⌜ r ≡ opened «max_values» «max_payload_bytes» ⌝ }
+    {
+        DecodedOutputBudget {
+            max_values,
+            max_payload_bytes,
+            used_values: FieldValues(0),
+            used_payload_bytes: PayloadBytes(0),
+            exceeded: Exceeded::None,
+        }
+    }
+
+    // The same limits, with nothing used and nothing recorded.
+    pub fn reset(self) -> Self
+        ensures { λ r. ⌜ r ≡ opened (self .«max_values») (self .«max_payload_bytes») ⌝ }
+    {
+        DecodedOutputBudget::new(self.max_values, self.max_payload_bytes)
+    }
+
+    // Other limits, with nothing used and nothing recorded.
+    pub fn set_limits(mut self, max_values: FieldValues, max_payload_bytes: PayloadBytes) -> Self
+        ensures { λ r. ⌜ r ≡ opened «max_values» «max_payload_bytes» ⌝ }
+    {
+        self.max_values = max_values;
+        self.max_payload_bytes = max_payload_bytes;
+        self.reset()
+    }
+
+    // The counts in use, to roll back to.
+    pub fn checkpoint(self) -> OutputCounts
+        ensures { λ r. ⌜ r ≡ useOf self ⌝ }
+    {
+        self.used()
+    }
+
+    // The counts in use.
+    pub fn used(self) -> OutputCounts
+        ensures { λ r. ⌜ r ≡ useOf self ⌝ }
+    {
+        let values = self.used_values;
+        let payload_bytes = self.used_payload_bytes;
+        OutputCounts {
+            values,
+            payload_bytes,
+        }
+    }
+
+    // What remains of both counts.
+    pub fn remaining(self) -> OutputCounts
+        ensures { λ r. ⌜ r ≡ remainingOf self ⌝ }
+    {
+        OutputCounts {
+            values: FieldValues(left(self.max_values.0, self.used_values.0)),
+            payload_bytes: PayloadBytes(left(self.max_payload_bytes.0, self.used_payload_bytes.0)),
+        }
+    }
+
+    // Whether an excess is recorded.
+    pub fn is_exceeded(self) -> bool
+        ensures { λ r. ⌜ r ≡ isRecorded (self .exceeded) ⌝ }
+    {
+        let exceeded = self.exceeded;
+        match exceeded {
+            Exceeded::None => false,
+            Exceeded::Recorded(_) => true,
+        }
+    }
+
+    // The recorded excess, which is recorded no longer.
+    pub fn take_exceeded(self) -> TakeOutcome
+        ensures { λ r. ⌜ Takes self (r .answer) (r .budget) ⌝ }
+    {
+        let answer = self.exceeded;
+        let budget = self.with_use(self.used_values, self.used_payload_bytes, Exceeded::None);
+        TakeOutcome { answer, budget }
+    }
+
+    // Both counts are reserved, or none of them: values are tested before payload.
+    pub fn reserved(self, values: FieldValues, payload: PayloadBytes) -> ReserveOutcome
+        ensures { λ r. ⌜ Reserves self values payload (r .answer) (r .budget) ⌝ }
+    {
+        let max_values = self.max_values.0;
+        let used_values = self.used_values.0;
+        let max_payload_bytes = self.max_payload_bytes.0;
+        let used_payload_bytes = self.used_payload_bytes.0;
+        if passes(max_values, used_values, values.0) {
+            return self.exceed(OutputBudgetExceeded {
+                limit: DecodedOutputLimit::FieldValues,
+                configured: max_values,
+                attempted: attempted(used_values, values.0),
+            });
+        }
+        if passes(max_payload_bytes, used_payload_bytes, payload.0) {
+            return self.exceed(OutputBudgetExceeded {
+                limit: DecodedOutputLimit::FieldPayloadBytes,
+                configured: max_payload_bytes,
+                attempted: attempted(used_payload_bytes, payload.0),
+            });
+        }
+        let budget = self.grow(values, payload);
+        ReserveOutcome {
+            answer: ReserveAnswer::Reserved,
+            budget,
+        }
+    }
+
+    // Back to counts that are not above those in use; what was recorded goes.
+    pub fn rolled_back(self, values: FieldValues, payload: PayloadBytes) -> RollbackOutcome
+        ensures { λ r. ⌜ RollsBack self values payload (r .answer) (r .budget) ⌝ }
+    {
+        let used_values = self.used_values.0;
+        let used_payload_bytes = self.used_payload_bytes.0;
+        if used_values < values.0 {
+            return RollbackOutcome {
+                answer: RollbackAnswer::AboveUse,
+                budget: self,
+            };
+        }
+        if used_payload_bytes < payload.0 {
+            return RollbackOutcome {
+                answer: RollbackAnswer::AboveUse,
+                budget: self,
+            };
+        }
+        let budget = self.with_use(values, payload, Exceeded::None);
+        RollbackOutcome {
+            answer: RollbackAnswer::RolledBack,
+            budget,
+        }
+    }
+
+    // The use grown by two counts, whose sums the caller has tested: here, or in `output_pending`.
+    pub fn grow(self, values: FieldValues, payload: PayloadBytes) -> Self
+        requires { ⌜ SumsWithin self values payload ⌝ }
+        ensures { λ r. ⌜ r ≡ grown self values payload ⌝ }
+    {
+        let used_values = FieldValues(self.used_values.0 + values.0);
+        let used_payload_bytes = PayloadBytes(self.used_payload_bytes.0 + payload.0);
+        let kept = self.exceeded;
+        self.with_use(used_values, used_payload_bytes, kept)
+    }
+
+    // A refused reservation: the use stays as it was.
+    fn exceed(self, excess: OutputBudgetExceeded) -> ReserveOutcome
+        ensures { λ r. ⌜ r ≡ record { answer = ReserveAnswer.Exceeded excess; budget = recorded self excess } ⌝ }
+    {
+        let kept = self.exceeded;
+        let exceeded = first(kept, excess);
+        let budget = self.with_use(self.used_values, self.used_payload_bytes, exceeded);
+        ReserveOutcome {
+            answer: ReserveAnswer::Exceeded(excess),
+            budget,
+        }
+    }
+
+    // The same limits, with this use and this record.
+    fn with_use(
+        self,
+        used_values: FieldValues,
+        used_payload_bytes: PayloadBytes,
+        exceeded: Exceeded,
+    ) -> Self
+        ensures { λ r. ⌜ r ≡ withUse self «used_values» «used_payload_bytes» exceeded ⌝ }
+    {
+        let max_values = self.max_values;
+        let max_payload_bytes = self.max_payload_bytes;
+        DecodedOutputBudget {
+            max_values,
+            max_payload_bytes,
+            used_values,
+            used_payload_bytes,
+            exceeded,
+        }
+    }
+}

@@ -1,4 +1,1 @@
-pub mod Fields
-pub mod Records
-pub mod Fixed
 pub mod Refusals

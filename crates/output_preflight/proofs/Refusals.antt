@@ -11,8 +11,8 @@ use borrow.Author.Tests.{lt-ltb, le-ltb, le-leb, lt-leb}
 use Rattle.wire.specs.declared.Reading.{Reading}
 use Rattle.wire.specs.Size.{leastSize}
 use Rattle.wire.proofs.Sizes.{some-width}
-use Rattle.output_preflight.specs.declared.scan.Scanned.{Scanned}
-use Rattle.output_preflight.specs.Scan.{scanOf}
+use Rattle.output_scan.specs.declared.Scanned.{Scanned}
+use Rattle.output_scan.specs.Scan.{scanOf}
 use Rattle.output_preflight.specs.Preflight.{Answer, number, costOf, preflightOf}
 
 either-way : {A : Type 0} (b : Bool) (a : A) → a ≡ cond b a a

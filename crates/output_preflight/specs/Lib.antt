@@ -1,3 +1,1 @@
-pub mod Field
-pub mod Scan
 pub mod Preflight

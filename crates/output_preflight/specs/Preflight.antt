@@ -7,13 +7,13 @@ use lib.Dec.{ltb, leb}
 use Rattle.wire.specs.declared.Reading.{Reading}
 use Rattle.wire.specs.Size.{leastSize}
 use Rattle.wire.specs.Padding.{isComplete}
-use Rattle.output_preflight.specs.declared.scan.Scanned.{Scanned}
+use Rattle.output_scan.specs.declared.Scanned.{Scanned}
 use Rattle.output_preflight.specs.declared.Figures.{Figures}
 use Rattle.output_preflight.specs.declared.Refusal.{Refusal}
 use Rattle.output_preflight.specs.declared.Refusal.the-variants.{ZeroRecordLimit, Oversized, Invalid}
 use Rattle.output_preflight.specs.declared.PreflightAnswer.{PreflightAnswer}
 use Rattle.output_preflight.specs.declared.PreflightAnswer.the-variants.{Valid, Refused}
-use Rattle.output_preflight.specs.Scan.{scanOf}
+use Rattle.output_scan.specs.Scan.{scanOf}
 
 -- what document 01 fixes: the cost in field values and payload bytes with the remainder's length, or a number
 pub data Answer : Type 0 where

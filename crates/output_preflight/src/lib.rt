@@ -1,14 +1,12 @@
 // The framing of a queued data-set body, and what decoding it would cost, before it is decoded (output_budget.rs).
-mod scan;
-
 ghost use mathlib.Core.Path.{_≡_};
 ghost use Prim.Native.Nat.{_≤_, _<_};
 ghost use Rattle.wire.specs.Size.{leastSize};
-ghost use Rattle.output_preflight.specs.Scan.{scanOf};
+ghost use Rattle.output_scan.specs.Scan.{scanOf};
 ghost use Rattle.output_preflight.specs.Preflight.{numberOf, answerOf, figuresOf, costOf, preflightOf};
-use scan::Scanned;
-use scan::scan_fixed_body;
-use scan::scan_variable_body;
+use output_scan::Scanned;
+use output_scan::scan_fixed_body;
+use output_scan::scan_variable_body;
 use wire::Reading;
 
 // A count of decoded field values.

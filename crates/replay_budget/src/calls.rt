@@ -1,20 +1,23 @@
 // The calls of a recorded list, by their numbers there.
-use output_budget::budget::DecodedOutputBudget;
-use output_budget::budget::DecodedOutputLimit;
-use output_budget::budget::Exceeded;
-use output_budget::budget::OutputBudgetExceeded;
-use output_budget::budget::ReserveAnswer;
-use output_budget::budget::RollbackAnswer;
-use output_budget::lent::materialize_by_loan;
-use output_budget::lent::reserve_by_loan;
-use output_budget::lent::rollback_by_loan;
-use output_budget::limits::DecodedOutputLimits;
-use output_budget::limits::LimitsAnswer;
-use output_budget::limits::LimitsRefusal;
-use output_budget::pending::DecoderReport;
-use output_budget::pending::FitAnswer;
-use output_budget::pending::MaterializeAnswer;
-use output_budget::pending::PendingOutputError;
+use output_budget::DecodedOutputBudget;
+use output_budget::DecodedOutputLimit;
+use output_budget::Exceeded;
+use output_budget::OutputBudgetExceeded;
+use output_budget::ReserveAnswer;
+use output_budget::RollbackAnswer;
+use output_lent::materialize_by_loan;
+use output_lent::reserve_by_loan;
+use output_lent::rollback_by_loan;
+use output_limits::DecodedOutputLimits;
+use output_limits::LimitsAnswer;
+use output_limits::LimitsRefusal;
+use output_pending::DecoderReport;
+use output_pending::FitAnswer;
+use output_pending::MaterializeAnswer;
+use output_pending::PendingOutputError;
+use output_pending::materialized;
+use output_pending::validate_pending_full_budget;
+use output_pending::validate_pending_remaining;
 use output_preflight::FieldValues;
 use output_preflight::PayloadBytes;
 use output_preflight::PendingOutputPreflight;
@@ -245,7 +248,7 @@ fn run_materialize(
     preflight: PreflightAnswer,
     report: DecoderReport,
 ) -> Answered {
-    let by_value = b.materialized(preflight, report);
+    let by_value = materialized(b, preflight, report);
     let by_loan = materialize_by_loan(b, preflight, report);
     let a = by_value.answer;
     let after = by_value.budget;
@@ -344,8 +347,8 @@ pub fn run_call(row: [u64; 19], b: DecodedOutputBudget) -> Answered {
     let call = row[0];
     let preflight = preflight_of(row[1], row[2], row[3], row[4]);
     match call {
-        6 => told_fit(b.validate_pending_full_budget(preflight), b),
-        7 => told_fit(b.validate_pending_remaining(preflight), b),
+        6 => told_fit(validate_pending_full_budget(b, preflight), b),
+        7 => told_fit(validate_pending_remaining(b, preflight), b),
         8 => run_materialize(b, preflight, report_of(row[5], row[2], row[3], row[4])),
         11 => told_limits(
             DecodedOutputLimits::new(

@@ -1,4 +1,4 @@
-use Rattle.output_preflight.proofs.Records.{scanned-few}
+use Rattle.output_scan.proofs.Records.{scanned-few}
 use Rattle.output_preflight.proofs.Refusals.{no-record-limit, long-body, many-widths, no-size, cost-by-scan}
 use borrow.Author.Needs.{needs}
 use Rattle.output_preflight.proofs.preflight.Statement.{statement}

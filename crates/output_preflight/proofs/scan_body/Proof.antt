@@ -1,4 +1,4 @@
-use Rattle.output_preflight.proofs.Fixed.{by-division}
+use Rattle.output_scan.proofs.Fixed.{by-division}
 use borrow.Author.Needs.{needs}
 use Rattle.output_preflight.proofs.scan_body.Statement.{statement}
 use Rattle.output_preflight.proofs.scan_body.Tie as tie

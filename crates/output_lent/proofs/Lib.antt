@@ -1,0 +1,4 @@
+pub mod Loans
+pub mod Params
+pub mod Lend
+pub mod Loaned

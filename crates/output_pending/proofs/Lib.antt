@@ -1,0 +1,4 @@
+pub mod Fits
+pub mod Reports
+pub mod Materials
+pub mod Refusals
