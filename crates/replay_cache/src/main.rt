@@ -1,10 +1,6 @@
 // Runs the cache on the list that `oracle record-cache` wrote, and compares after every call: the answer, the figures,
 // and, where the row lists them, the templates by recency with their bodies and the handed-out bodies, byte for byte.
-mod bodies;
-mod calls;
-mod held;
 mod replay;
-mod rows;
 mod wrong;
 
 use recorded::BUFFERS;
@@ -24,8 +20,8 @@ const WORDS: usize = 4096;
 
 const BYTES: usize = 16384;
 
-// Length and clock reading of 256 offers.
-const OFFERED: usize = 512;
+// Length and clock reading of 256 offers, and how many were made.
+const OFFERED: usize = 513;
 
 // Runs the rows among the first bytes of the buffer.
 fn run_lines(

@@ -1,19 +1,20 @@
 // A row run on the areas and compared: its answer, the figures after it, and what is then held.
-use super::calls::Answered;
-use super::calls::run_call;
-use super::held::KEPT;
-use super::held::same_handed_out;
-use super::held::same_templates;
-use super::rows::Row;
-use super::rows::line_end;
-use super::rows::read_row;
 use libc::STDOUT_FILENO;
 use pending_flows::FiguresAnswer;
 use pending_flows::take_figures;
 use recorded::Tally;
-use recorded::first_digit;
+use recorded_cache::Answered;
+use recorded_cache::KEPT;
+use recorded_cache::OFFERS;
+use recorded_cache::Row;
+use recorded_cache::goes_on;
+use recorded_cache::read_row;
+use recorded_cache::run_call;
+use recorded_cache::same_handed_out;
+use recorded_cache::same_templates;
 ghost use Prim.Native.Nat.{_≤_};
 ghost use lib.ListN.{length};
+ghost use Rattle.recorded.specs.Progress.{Onward};
 
 // The rows and lists run so far, and the lengths of the areas and the offers of the list that is open.
 pub struct Replay {
@@ -27,6 +28,8 @@ pub struct Replay {
 // The part of a row that differs first.
 pub enum Verdict {
     Same,
+    // the line ends before its list
+    Length,
     Number,
     Value,
     Figure,
@@ -52,7 +55,7 @@ fn at_most(n: usize, most: usize) -> usize
 }
 
 // Whether a figure is the recorded one, of which the answer's number and value are 0 and 1.
-fn same_figures(words: &[u64], bytes: &[u8], told: [u64; 9]) -> bool {
+fn same_figures(words: &[u64], bytes: &[u8], told: [u64; 8]) -> bool {
     let FiguresAnswer::At(figures) = take_figures(words, bytes) else {
         return false;
     };
@@ -91,11 +94,7 @@ fn same_list(
     if !all.same {
         return false;
     }
-    let next = all.next;
-    if line.len() < next {
-        return false;
-    }
-    first_digit(line, next) == line.len()
+    !goes_on(line, all.next)
 }
 
 // What of a row differs from the answer and the areas after it.
@@ -108,6 +107,9 @@ fn compare(
     offered: &[u64],
 ) -> Verdict {
     let told = row.told;
+    if !row.whole {
+        return Verdict::Length;
+    }
     if got.number != told[0] {
         return Verdict::Number;
     }
@@ -117,7 +119,10 @@ fn compare(
     if !same_figures(words, bytes, told) {
         return Verdict::Figure;
     }
-    if told[8] == 0 {
+    if !row.listed {
+        if goes_on(line, row.next) {
+            return Verdict::List;
+        }
         return Verdict::Same;
     }
     if same_list(words, bytes, line, row.next, told[7] as usize, offered) {
@@ -131,6 +136,9 @@ fn is_same(verdict: Verdict) -> bool {
     match verdict {
         Verdict::Same => {
             return true;
+        }
+        Verdict::Length => {
+            io::write_all(STDOUT_FILENO, b"length ");
         }
         Verdict::Number => {
             io::write_all(STDOUT_FILENO, b"number ");
@@ -189,6 +197,7 @@ fn open_after(row: Row, got: Answered, before: Replay, lent: Replay) -> Replay {
     lent
 }
 
+// Writes a word, where there is one.
 fn put(kept: &mut [u64], at: usize, value: u64) {
     if at < kept.len() {
         kept[at] = value;
@@ -244,6 +253,7 @@ fn run_row(
     let got = run_lent(words, bytes, row, lent, before.offers);
     keep_offer(offered, row, before.offers);
     let open = open_after(row, got, before, lent);
+    put(offered, OFFERS, open.offers);
     let verdict = compare_lent(words, bytes, line, row, got, open, offered);
     let tally = open.tally;
     Replay {
@@ -253,6 +263,21 @@ fn run_row(
         words: open.words,
         offers: open.offers,
     }
+}
+
+// Where the line that begins at `at` ends.
+fn line_end(text: &[u8], at: usize) -> usize
+    requires { ⌜ at ≤ length (now text) ⌝ }
+    ensures { λ r. ⌜ Onward at r (length (now (text .entry))) ⌝ }
+{
+    let mut i = at;
+    while i < text.len() {
+        if text[i] == b'\n' {
+            return i;
+        }
+        i += 1;
+    }
+    i
 }
 
 // Runs the rows of a text, a line each.

@@ -11,7 +11,7 @@ Inv-loop words₀ bytes₀ offered₀ buffer₀ replay₀ kept₀ turn₀ words 
     (length buffer ≡ 65536) ×
     (length words ≡ 4096) ×
     (length bytes ≡ 16384) ×
-    (length offered ≡ 512)
+    (length offered ≡ 513)
 
 abbrev μ-loop : tie.MeasureT-loop
 μ-loop words₀ bytes₀ offered₀ buffer₀ replay₀ kept₀ turn₀ words bytes offered buffer replay kept turn =

@@ -1,30 +1,33 @@
 // A row of the recorded list (oracle/README.md, "Cache"): decimal numbers, as many as its call and its list need,
 //     call arguments number value templates bodies bytes cached dropped handed listed list
+use recorded::first_digit;
 use recorded::next_number;
 ghost use Prim.Native.Nat.{_≤_};
-ghost use lib.ListN.{length};
 
-// Up to nine numbers of a line, and where the line goes on.
-pub struct Numbers {
-    pub values: [u64; 9],
-    pub next: usize,
+// Up to eight numbers of a line, and where the line goes on.
+struct Numbers {
+    values: [u64; 8],
+    next: usize,
 }
 
 // A row up to its list.
 pub struct Row {
     pub call: u64,
-    pub args: [u64; 9],
-    // number, value, six figures, and 1 where a list follows
-    pub told: [u64; 9],
+    pub args: [u64; 8],
+    // number, value, and six figures
+    pub told: [u64; 8],
+    // whether the line goes on so far
+    pub whole: bool,
+    pub listed: bool,
     // where the list begins
     pub next: usize,
 }
 
 // Reads n numbers from `at` on.
 fn read_numbers(line: &[u8], at: usize, n: usize) -> Numbers
-    requires { ⌜ n ≤ 9 ⌝ }
+    requires { ⌜ n ≤ 8 ⌝ }
 {
-    let mut values = [0u64; 9];
+    let mut values = [0u64; 8];
     let mut next = at;
     let mut i: usize = 0;
     while i < n {
@@ -38,7 +41,7 @@ fn read_numbers(line: &[u8], at: usize, n: usize) -> Numbers
 
 // How many arguments a call has.
 fn argument_count(call: u64) -> usize
-    ensures { λ r. ⌜ r ≤ 9 ⌝ }
+    ensures { λ r. ⌜ r ≤ 8 ⌝ }
 {
     match call {
         0 => 8,
@@ -52,32 +55,29 @@ fn argument_count(call: u64) -> usize
     }
 }
 
+// Whether a line has a number at or after `at`.
+pub fn goes_on(line: &[u8], at: usize) -> bool {
+    if line.len() <= at {
+        return false;
+    }
+    first_digit(line, at) != line.len()
+}
+
 // Reads the row of a line.
 pub fn read_row(line: &[u8]) -> Row {
     let call = next_number(line, 0);
     let arguments = read_numbers(line, call.next, argument_count(call.value));
-    let answer = read_numbers(line, arguments.next, 9);
+    let answer = read_numbers(line, arguments.next, 8);
+    let whole = goes_on(line, answer.next);
+    let listed = next_number(line, answer.next);
     let args = arguments.values;
     let told = answer.values;
     Row {
         call: call.value,
         args,
         told,
-        next: answer.next,
+        whole,
+        listed: listed.value == 1,
+        next: listed.next,
     }
-}
-
-// Where the line that begins at `at` ends.
-pub fn line_end(text: &[u8], at: usize) -> usize
-    requires { ⌜ at ≤ length (now text) ⌝ }
-    ensures { λ r. ⌜ (at ≤ r) × (r ≤ length (now (text .entry))) ⌝ }
-{
-    let mut i = at;
-    while i < text.len() {
-        if text[i] == b'\n' {
-            return i;
-        }
-        i += 1;
-    }
-    i
 }

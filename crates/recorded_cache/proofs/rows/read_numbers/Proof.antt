@@ -2,11 +2,11 @@ use Prim.Native.Nat.{_-_}
 use mathlib.Core.Path.{_≡_}
 use lib.ListN.{length}
 use borrow.Author.Needs.{needs}
-use Rattle.replay_cache.proofs.rows.read_numbers.Statement.{statement}
-use Rattle.replay_cache.proofs.rows.read_numbers.Tie as tie
+use Rattle.recorded_cache.proofs.rows.read_numbers.Statement.{statement}
+use Rattle.recorded_cache.proofs.rows.read_numbers.Tie as tie
 
 abbrev Inv-loop : tie.InvT-loop
-Inv-loop line at n values₀ next₀ i₀ values next i = length values ≡ 9
+Inv-loop line at n values₀ next₀ i₀ values next i = length values ≡ 8
 
 abbrev μ-loop : tie.MeasureT-loop
 μ-loop line at n values₀ next₀ i₀ values next i = n - i

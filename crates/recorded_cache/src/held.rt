@@ -1,12 +1,16 @@
 // The list of a row against the areas, read here by docs/LAYOUT.md and not by the cache's own code.
 use super::bodies::same_bytes;
+use super::rows::goes_on;
 use pending_flows::PlaceAnswer;
 use pending_flows::place_handed_out;
 use pending_flows::read_handed_out;
 use recorded::next_number;
 
-// The offers whose length and clock reading are kept.
+// The offers whose length and clock reading are kept: lengths from word 0 on, clock readings from here on.
 pub const KEPT: usize = 256;
+
+// The word behind them: how many offers were made since the opening.
+pub const OFFERS: usize = 512;
 
 // How far a list is the same, and where the line goes on.
 pub struct Compared {
@@ -30,6 +34,14 @@ fn word(words: &[u64], from: usize, i: usize) -> u64 {
         return 0;
     }
     words[from + i]
+}
+
+// Whether offer k was made since the opening, and is kept.
+fn is_kept(offered: &[u64], k: u64) -> bool {
+    if KEPT as u64 <= k {
+        return false;
+    }
+    k < word(offered, OFFERS, 0)
 }
 
 // Where the template records begin: behind the header of 64 words and four words for each body.
@@ -88,7 +100,7 @@ fn same_place(bytes: &[u8], place: u64, len: u64, k: u64) -> bool {
 
 // Whether the entry that begins at `at` is offer k: length, clock reading and bytes.
 fn same_entry(words: &[u64], bytes: &[u8], at: usize, k: u64, offered: &[u64]) -> bool {
-    if KEPT as u64 <= k {
+    if !is_kept(offered, k) {
         return false;
     }
     let i = k as usize;
@@ -114,6 +126,9 @@ fn same_bodies(
     let mut next = at;
     let mut j: u64 = 0;
     while j < n {
+        if !goes_on(line, next) {
+            return differs();
+        }
         let offer = next_number(line, next);
         let entry = entry_begin(words, label, j);
         if entry == 0 {
@@ -138,6 +153,9 @@ fn same_template(
     offered: &[u64],
 ) -> Compared {
     let id = next_number(line, at);
+    if !goes_on(line, id.next) {
+        return differs();
+    }
     let count = next_number(line, id.next);
     if word(words, from, 0) != id.value {
         return differs();
@@ -183,7 +201,7 @@ pub fn same_templates(
 
 // Whether handed-out body j is that of offer k, by its length as placed and as read, and by its bytes.
 fn same_handed(words: &[u64], bytes: &[u8], j: usize, k: u64, offered: &[u64]) -> bool {
-    if KEPT as u64 <= k {
+    if !is_kept(offered, k) {
         return false;
     }
     let PlaceAnswer::At(body) = place_handed_out(words, bytes, j) else {
@@ -212,6 +230,9 @@ pub fn same_handed_out(
     let mut next = at;
     let mut j: usize = 0;
     while j < n {
+        if !goes_on(line, next) {
+            return differs();
+        }
         let offer = next_number(line, next);
         if !same_handed(words, bytes, j, offer.value, offered) {
             return differs();

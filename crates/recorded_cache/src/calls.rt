@@ -47,7 +47,7 @@ fn id_of(n: u64) -> u16 {
 }
 
 // The limits of a row, in document 01's order.
-fn limits_of(args: [u64; 9]) -> PendingFlowsConfig {
+fn limits_of(args: [u64; 8]) -> PendingFlowsConfig {
     let ttl = if args[4] == 0 {
         Ttl::None
     } else {
@@ -62,7 +62,7 @@ fn limits_of(args: [u64; 9]) -> PendingFlowsConfig {
     }
 }
 
-fn run_open(words: &mut [u64], bytes: &[u8], args: [u64; 9]) -> Answered {
+fn run_open(words: &mut [u64], bytes: &[u8], args: [u64; 8]) -> Answered {
     let answer = open(limits_of(args), words, bytes);
     match answer {
         ConfigAnswer::Accepted => told(0, 0),
@@ -82,7 +82,7 @@ fn offer_number(answer: OfferAnswer) -> u64 {
 }
 
 // Offers the body of offer k.
-fn run_offer(words: &mut [u64], bytes: &mut [u8], args: [u64; 9], k: u64) -> Answered {
+fn run_offer(words: &mut [u64], bytes: &mut [u8], args: [u64; 8], k: u64) -> Answered {
     let len = args[1] as usize;
     if LONGEST < len {
         return told(NO_CALL, 0);
@@ -92,7 +92,7 @@ fn run_offer(words: &mut [u64], bytes: &mut [u8], args: [u64; 9], k: u64) -> Ans
     told(offer_number(answer), 0)
 }
 
-fn run_drain(words: &mut [u64], bytes: &[u8], args: [u64; 9]) -> Answered {
+fn run_drain(words: &mut [u64], bytes: &[u8], args: [u64; 8]) -> Answered {
     let answer = drain(words, bytes, id_of(args[0]), args[1]);
     match answer {
         DrainAnswer::HandedOut(n) => told(0, n as u64),
@@ -100,7 +100,7 @@ fn run_drain(words: &mut [u64], bytes: &[u8], args: [u64; 9]) -> Answered {
     }
 }
 
-fn run_put_back(words: &mut [u64], bytes: &[u8], args: [u64; 9]) -> Answered {
+fn run_put_back(words: &mut [u64], bytes: &[u8], args: [u64; 8]) -> Answered {
     let answer = restore_replay_suffix(words, bytes, id_of(args[0]), args[1] as usize);
     match answer {
         PutBackAnswer::Done => told(0, 0),
@@ -111,7 +111,7 @@ fn run_put_back(words: &mut [u64], bytes: &[u8], args: [u64; 9]) -> Answered {
     }
 }
 
-fn run_resize(words: &mut [u64], bytes: &mut [u8], args: [u64; 9]) -> Answered {
+fn run_resize(words: &mut [u64], bytes: &mut [u8], args: [u64; 8]) -> Answered {
     let answer = resize(words, bytes, limits_of(args));
     match answer {
         ResizeAnswer::Dropped(n) => told(0, n as u64),
@@ -128,7 +128,7 @@ fn run_clear(words: &mut [u64], bytes: &[u8]) -> Answered {
     }
 }
 
-fn run_would_accept(words: &[u64], bytes: &[u8], args: [u64; 9]) -> Answered {
+fn run_would_accept(words: &[u64], bytes: &[u8], args: [u64; 8]) -> Answered {
     let answer = would_accept(words, bytes, id_of(args[0]), args[1] as usize, args[2]);
     match answer {
         AcceptAnswer::Yes => told(0, 1),
@@ -138,7 +138,7 @@ fn run_would_accept(words: &[u64], bytes: &[u8], args: [u64; 9]) -> Answered {
 }
 
 // The number and the length of a handed-out body, the length as it is read.
-fn run_read(words: &[u64], bytes: &[u8], args: [u64; 9]) -> Answered {
+fn run_read(words: &[u64], bytes: &[u8], args: [u64; 8]) -> Answered {
     let k = args[0] as usize;
     let answer = place_handed_out(words, bytes, k);
     match answer {
@@ -158,7 +158,7 @@ pub fn run_call(
     words: &mut [u64],
     bytes: &mut [u8],
     call: u64,
-    args: [u64; 9],
+    args: [u64; 8],
     k: u64,
 ) -> Answered {
     match call {

@@ -1,15 +1,14 @@
 use Prim.Native.Nat.{_-_}
-use mathlib.Core.Path.{_≡_}
 use lib.ListN.{length}
 use borrow.Author.Needs.{needs}
-use Rattle.replay_cache.proofs.bodies.body_of.Statement.{statement}
-use Rattle.replay_cache.proofs.bodies.body_of.Tie as tie
+use Rattle.recorded_cache.proofs.bodies.same_bytes.Statement.{statement}
+use Rattle.recorded_cache.proofs.bodies.same_bytes.Tie as tie
 
 abbrev Inv-loop : tie.InvT-loop
-Inv-loop k len body₀ step byte₀ i₀ body byte i = length body ≡ 2048
+Inv-loop body k step byte₀ i₀ byte i = Unit {0}
 
 abbrev μ-loop : tie.MeasureT-loop
-μ-loop k len body₀ step byte₀ i₀ body byte i = len - i
+μ-loop body k step byte₀ i₀ byte i = length body - i
 
 rise-requires : tie.Need-rise-requires Inv-loop μ-loop
 rise-requires c κs = search needs
@@ -20,8 +19,11 @@ first-byte-requires c κs = search needs
 loop-holds : tie.Need-loop-holds Inv-loop μ-loop
 loop-holds c = search needs
 
-array-write-body : tie.Need-array-write-body Inv-loop μ-loop
-array-write-body c = search needs
+shared-slice-read-if1 : tie.Need-shared-slice-read-if1 Inv-loop μ-loop
+shared-slice-read-if1 c = search needs
+
+returns : tie.Need-returns Inv-loop μ-loop
+returns c = search needs
 
 wrapping-add-u8-requires : tie.Need-wrapping-add-u8-requires Inv-loop μ-loop
 wrapping-add-u8-requires c κs = search needs
@@ -35,11 +37,11 @@ loop-less c = search needs
 loop-again : tie.Need-loop-again Inv-loop μ-loop
 loop-again c = search needs
 
-returns : tie.Need-returns Inv-loop μ-loop
-returns c = search needs
+returns-2 : tie.Need-returns-2 Inv-loop μ-loop
+returns-2 c = search needs
 
-pub body-of-spec : {M : Type 1} → statement M
-body-of-spec =
+pub same-bytes-spec : {M : Type 1} → statement M
+same-bytes-spec =
     tie.close
     (tie.spec
     Inv-loop
@@ -47,9 +49,10 @@ body-of-spec =
     rise-requires
     first-byte-requires
     loop-holds
-    array-write-body
+    shared-slice-read-if1
+    returns
     wrapping-add-u8-requires
     add-i
     loop-less
     loop-again
-    returns)
+    returns-2)

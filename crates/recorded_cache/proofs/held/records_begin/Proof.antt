@@ -1,8 +1,8 @@
 use native.Mathlib.Omega.{arith}
 use native.Mathlib.Nat.{mul-le-mul}
 use borrow.Author.Needs.{needs}
-use Rattle.replay_cache.proofs.held.records_begin.Statement.{statement}
-use Rattle.replay_cache.proofs.held.records_begin.Tie as tie
+use Rattle.recorded_cache.proofs.held.records_begin.Statement.{statement}
+use Rattle.recorded_cache.proofs.held.records_begin.Tie as tie
 
 word-requires : tie.Need-word-requires
 word-requires c κs = search needs

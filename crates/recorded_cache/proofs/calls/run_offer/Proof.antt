@@ -2,8 +2,8 @@ use mathlib.Core.Path.{sym}
 use native.Mathlib.Omega.{arith}
 use lib.Seq.{length-take-le}
 use borrow.Author.Needs.{needs}
-use Rattle.replay_cache.proofs.calls.run_offer.Statement.{statement}
-use Rattle.replay_cache.proofs.calls.run_offer.Tie as tie
+use Rattle.recorded_cache.proofs.calls.run_offer.Statement.{statement}
+use Rattle.recorded_cache.proofs.calls.run_offer.Tie as tie
 
 array-read-len : tie.Need-array-read-len
 array-read-len c = search needs
