@@ -1,8 +1,8 @@
 //! The pending flow cache: calls, the original's answers beside document 01's, and what is done
 //! with them.
 
-mod account;
-mod body;
+pub mod account;
+pub mod body;
 mod branch;
 pub mod call;
 #[cfg(feature = "live-cache")]
@@ -11,21 +11,21 @@ pub mod count;
 mod counts;
 #[cfg(feature = "live-cache")]
 pub mod damage;
-mod document;
+pub mod document;
 mod exhaustive;
 mod generator;
 #[cfg(feature = "live-cache")]
 mod layout;
 #[cfg(feature = "live-cache")]
 mod lent;
-mod limits;
+pub mod limits;
 mod original;
-mod parts;
+pub mod parts;
 pub mod record;
 #[cfg(feature = "live-cache")]
 mod redo;
 mod rows;
-mod run;
+pub mod run;
 pub mod stream;
 
 #[cfg(test)]
