@@ -47,10 +47,10 @@ fn handed_out_label(words: &[u64]) -> Option<u64> {
     if word(words, MAY_PUT_BACK) == 0 {
         return None;
     }
-    let [templates, bodies] = [0, 1].map(|at| word(words, at) as usize);
-    let records = HEADER_WORDS + ENTRY_WORDS * (templates * bodies);
-    let record = records + RECORD_WORDS * word(words, TEMPLATES_HELD) as usize;
-    words.get(record + 1).copied()
+    let [templates, bodies, held] = [0, 1, TEMPLATES_HELD].map(|at| word(words, at) as usize);
+    let entries = templates.checked_mul(bodies)?.checked_mul(ENTRY_WORDS)?;
+    let records = words.get(HEADER_WORDS..)?.get(entries..)?;
+    records.chunks_exact(RECORD_WORDS).nth(held).map(|record| record[1])
 }
 
 fn word(words: &[u64], at: usize) -> u64 {

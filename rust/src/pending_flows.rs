@@ -8,6 +8,9 @@ use crate::numbers::DAMAGED;
 use std::fmt;
 use std::time::{Duration, Instant};
 
+#[cfg(test)]
+mod damaged;
+
 /// A drained entry: raw data with the time at which it was cached.
 #[derive(Debug, Clone, PartialEq, Eq)]
 pub struct PendingFlowEntry {
