@@ -11,7 +11,7 @@ const DEFAULT_MAX_TOTAL_BYTES: usize = 64 * 1024 * 1024;
 const MAX_ENTRY_SIZE_LIMIT: usize = u16::MAX as usize - 4;
 
 /// Configuration for pending flow caching, with the original's fields and defaults.
-#[derive(Debug, Clone)]
+#[derive(Debug, Clone, PartialEq, Eq)]
 pub struct PendingFlowsConfig {
     /// Maximum number of template IDs to track. At most 1,024.
     pub max_pending_flows: usize,

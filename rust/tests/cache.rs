@@ -200,6 +200,7 @@ impl Sides {
         assert_eq!(metrics, counters, "{call:?}");
         assert_eq!(self.cache.count(), expected.bodies);
         assert!(!self.cache.is_damaged());
+        assert_eq!(*self.cache.config(), config(&self.run.account.limits), "{call:?}");
     }
 }
 
