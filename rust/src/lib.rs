@@ -19,11 +19,17 @@ mod metrics;
 mod numbers;
 mod output_budget;
 mod pending_flows;
+mod preflight;
 
 pub use config::{ConfigError, DEFAULT_MAX_RECORDS_PER_FLOWSET, PendingFlowsConfig};
 pub use metrics::{PendingMetrics, RecordPending};
 pub use output_budget::{
+    DEFAULT_MAX_DECODED_FIELD_PAYLOAD_BYTES_PER_MESSAGE,
+    DEFAULT_MAX_DECODED_FIELD_VALUES_PER_MESSAGE, DecodedOutputBudget, DecodedOutputLimit,
+    DecodedOutputLimits, OutputBudgetExceeded, PendingOutputError, PendingReplayOutcome,
+};
+pub use pending_flows::{Figures, PendingFlowCache, PendingFlowEntry};
+pub use preflight::{
     PendingOutputPreflight, RecordBodyKind, measure_fixed_output, measure_fixed_widths,
     measure_variable_output,
 };
-pub use pending_flows::{Figures, PendingFlowCache, PendingFlowEntry};
