@@ -4,7 +4,7 @@
 use std::path::PathBuf;
 use std::{env, fs};
 
-/// The files that stay as they are.
+/// The files that stay as they are. `output_budget` goes with the feature of that name.
 const ORIGINALS: [&str; 5] = ["config", "metrics", "output_budget", "ttl", "wire"];
 
 /// Seen from this package, as oracle/build.rs has it.
@@ -19,7 +19,8 @@ fn main() {
         None => package.join(DEFAULT_SOURCE),
     };
     let mut modules = String::new();
-    for name in ORIGINALS {
+    let swaps_budget = env::var_os("CARGO_FEATURE_OUTPUT_BUDGET").is_some();
+    for name in ORIGINALS.into_iter().filter(|name| !(swaps_budget && *name == "output_budget")) {
         let file = source.join("variable_versions").join(format!("{name}.rs"));
         assert!(file.is_file(), "original text {}", file.display());
         println!("cargo::rerun-if-changed={}", file.display());
