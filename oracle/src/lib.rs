@@ -6,7 +6,7 @@ mod checks;
 mod clock;
 pub mod framing;
 pub mod numbers;
-#[cfg(any(feature = "live", feature = "live-cache"))]
+#[cfg(feature = "live")]
 mod port;
 pub mod random;
 mod template_store;

@@ -5,24 +5,26 @@ pub mod account;
 pub mod body;
 mod branch;
 pub mod call;
-#[cfg(feature = "live-cache")]
+#[cfg(feature = "live")]
 pub mod compare;
 pub mod count;
 mod counts;
-#[cfg(feature = "live-cache")]
+#[cfg(feature = "live")]
 pub mod damage;
 pub mod document;
 mod exhaustive;
 mod generator;
-#[cfg(feature = "live-cache")]
+#[cfg(feature = "live")]
 mod layout;
-#[cfg(feature = "live-cache")]
+#[cfg(feature = "live")]
 mod lent;
 pub mod limits;
+#[cfg(feature = "live")]
+pub mod memory;
 mod original;
 pub mod parts;
 pub mod record;
-#[cfg(feature = "live-cache")]
+#[cfg(feature = "live")]
 mod redo;
 mod rows;
 pub mod run;
