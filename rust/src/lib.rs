@@ -5,6 +5,23 @@
 //! `Vec`, `Duration` and `Instant` into slices and counts, and document 01's numbers into the
 //! original's answers. Where a method cannot mean quite the same as the original's, its comment
 //! says so under "Unlike the original".
+//!
+//! ```
+//! use netflow_pending::{PendingFlowCache, PendingFlowsConfig, PendingMetrics};
+//! use std::time::Duration;
+//!
+//! let mut config = PendingFlowsConfig::with_ttl(2, Duration::from_secs(60));
+//! config.max_entries_per_template = 2;
+//! let mut cache = PendingFlowCache::new(config)?;
+//! let mut metrics = PendingMetrics::default(); // or your own, by the trait RecordPending
+//! assert!(cache.would_accept(300, 6));
+//! assert_eq!(cache.cache(300, vec![1; 6], &mut metrics), None);
+//! let entries = cache.drain(300, &mut metrics); // the template came
+//! assert_eq!(entries[0].raw_data, [1; 6]);
+//! cache.restore_replay_suffix(300, entries); // the message is full: for the next one
+//! assert_eq!((cache.count(), metrics.pending_dropped), (1, 0));
+//! # Ok::<(), netflow_pending::ConfigError>(())
+//! ```
 
 #![deny(unsafe_code)]
 
