@@ -96,11 +96,9 @@ fn materialize(budget: &mut DecodedOutputBudget, preflight: Preflight, report: R
         scratch.reserve(values as usize, payload as usize).map_err(|_| ())?;
         Ok::<_, ()>((&BODY[..remainder as usize], values))
     });
-    assert!(
-        called
-            || matches!(result, Err(error) if error != PendingOutputError::Invalid)
-            || preflight.is_none()
-    );
+    // The decoder is asked where the preflight fits, and not else.
+    let fits = matches!(result, Ok(_) | Err(PendingOutputError::Invalid)) && preflight.is_some();
+    assert_eq!(called, fits);
     match result {
         Ok((value, remainder)) => {
             assert_eq!(Some(value), reported.map(|words| words[0]));
