@@ -5,7 +5,7 @@ use crate::config::PendingFlowsConfig;
 use std::time::Duration;
 
 unsafe extern "C" {
-    pub safe fn netflow_pending_validate_config(
+    safe fn netflow_pending_validate_config(
         words_len: usize,
         bytes_len: usize,
         max_pending_flows: usize,
@@ -13,7 +13,7 @@ unsafe extern "C" {
         max_entry_size_bytes: usize,
         max_total_bytes: usize,
     ) -> u32;
-    pub fn netflow_pending_open(
+    fn netflow_pending_open(
         words: *mut u64,
         words_len: usize,
         bytes: *const u8,
@@ -25,7 +25,7 @@ unsafe extern "C" {
         has_ttl: u32,
         ttl: u64,
     ) -> u32;
-    pub fn netflow_pending_cache(
+    fn netflow_pending_cache(
         words: *mut u64,
         words_len: usize,
         bytes: *mut u8,
@@ -35,7 +35,7 @@ unsafe extern "C" {
         body_len: usize,
         clock: u64,
     ) -> u32;
-    pub fn netflow_pending_drain(
+    fn netflow_pending_drain(
         words: *mut u64,
         words_len: usize,
         bytes: *const u8,
@@ -44,7 +44,7 @@ unsafe extern "C" {
         clock: u64,
         handed_out: *mut u64,
     ) -> u32;
-    pub fn netflow_pending_restore_replay_suffix(
+    fn netflow_pending_restore_replay_suffix(
         words: *mut u64,
         words_len: usize,
         bytes: *const u8,
@@ -52,7 +52,7 @@ unsafe extern "C" {
         id: u16,
         count: usize,
     ) -> u32;
-    pub fn netflow_pending_resize(
+    fn netflow_pending_resize(
         words: *mut u64,
         words_len: usize,
         bytes: *mut u8,
@@ -65,13 +65,13 @@ unsafe extern "C" {
         ttl: u64,
         dropped: *mut u64,
     ) -> u32;
-    pub fn netflow_pending_clear(
+    fn netflow_pending_clear(
         words: *mut u64,
         words_len: usize,
         bytes: *const u8,
         bytes_len: usize,
     ) -> u32;
-    pub fn netflow_pending_would_accept(
+    fn netflow_pending_would_accept(
         words: *const u64,
         words_len: usize,
         bytes: *const u8,
@@ -81,14 +81,14 @@ unsafe extern "C" {
         clock: u64,
         accepts: *mut u64,
     ) -> u32;
-    pub fn netflow_pending_figures(
+    fn netflow_pending_figures(
         words: *const u64,
         words_len: usize,
         bytes: *const u8,
         bytes_len: usize,
         figures: *mut [u64; 6],
     ) -> u32;
-    pub fn netflow_pending_place_handed_out(
+    fn netflow_pending_place_handed_out(
         words: *const u64,
         words_len: usize,
         bytes: *const u8,

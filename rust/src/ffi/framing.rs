@@ -3,7 +3,7 @@
 use super::{Number, answered};
 
 unsafe extern "C" {
-    pub fn netflow_preflight_v9_fixed(
+    fn netflow_preflight_v9_fixed(
         body: *const u8,
         body_len: usize,
         widths: *const u16,
@@ -11,7 +11,7 @@ unsafe extern "C" {
         max_records: usize,
         cost: *mut [u64; 3],
     ) -> u32;
-    pub fn netflow_preflight_ipfix_fixed(
+    fn netflow_preflight_ipfix_fixed(
         body: *const u8,
         body_len: usize,
         widths: *const u16,
@@ -19,7 +19,7 @@ unsafe extern "C" {
         max_records: usize,
         cost: *mut [u64; 3],
     ) -> u32;
-    pub fn netflow_preflight_ipfix_variable(
+    fn netflow_preflight_ipfix_variable(
         body: *const u8,
         body_len: usize,
         widths: *const u16,

@@ -4,14 +4,14 @@
 //! What every call below rests on: a slice crosses as its pointer and its length, so that the
 //! archive stays within it; `&mut` and `&` keep the areas, the body and the words for answers
 //! apart from each other and alive until the call returns; a `*const` is not written. The
-//! archive's functions are proved to return for every input, keep no pointer and do not unwind.
+//! archive's functions are proved to return for every input; they keep no pointer and do not
+//! unwind.
 
 mod budget;
 mod cache;
 mod framing;
 
-pub use budget::BudgetWords;
-pub use budget::limits;
+pub use budget::{BudgetWords, limits};
 pub use cache::{Areas, nanoseconds, validate_config};
 pub use framing::{Reading, preflight};
 
