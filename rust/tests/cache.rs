@@ -244,7 +244,7 @@ fn middle_caches() {
 
 #[test]
 fn default_limits() {
-    Comparison::of_part(Part::Defaults { seed: 11, calls: 1_000 });
+    Comparison::of_part(Part::Defaults { seed: 11, calls: 10_000 });
 }
 
 /// All lists of up to 4 calls on six small caches, and of 3 calls after three fillings.
