@@ -1,20 +1,7 @@
 //! Runs the original Rust text beside what was ported from it. README.md has the commands.
 
-mod budget;
-mod cache;
-mod checks;
-mod clock;
-mod framing;
-mod numbers;
-#[cfg(feature = "live")]
-mod port;
-mod random;
-mod template_store;
-mod variable_versions;
-
+use oracle::{budget, cache, framing};
 use std::process::ExitCode;
-// The original text names these two at the root of its crate.
-use variable_versions::config::{ConfigError, DEFAULT_MAX_RECORDS_PER_FLOWSET};
 
 const USAGE: &str = "\
 usage: oracle record-framing FILE

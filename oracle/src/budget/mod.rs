@@ -1,11 +1,11 @@
 //! The decoded-output budget: calls, the original's answers, and what is done with them.
 
-mod call;
+pub mod call;
 mod counts;
 mod departure;
 mod exhaustive;
-mod generator;
+pub mod generator;
 mod original;
 pub mod record;
-mod rows;
+pub mod rows;
 pub mod stream;

@@ -23,14 +23,19 @@ impl<W: Write> Rows<W> {
         original::state(&self.budget)
     }
 
-    /// Makes the call and writes its row. The answer is the original's, but where document 01
-    /// departs from it.
+    /// Makes the call and writes its row.
     pub fn add(&mut self, call: &Call) -> io::Result<()> {
+        let answer = self.make(call);
+        self.write(call, &answer)
+    }
+
+    /// Makes the call. The answer is the original's, but where document 01 departs from it.
+    pub fn make(&mut self, call: &Call) -> Answer {
         let departure = departure(&self.state(), call);
         let departs = departure.is_some();
         let answer = departure.unwrap_or_else(|| original::answer(&mut self.budget, call));
         self.counts.add(call, answer.number, departs);
-        self.write(call, &answer)
+        answer
     }
 
     fn write(&mut self, call: &Call, answer: &Answer) -> io::Result<()> {

@@ -1,8 +1,8 @@
 //! The pending flow cache: calls, the original's answers beside document 01's, and what is done
 //! with them.
 
-mod account;
-mod body;
+pub mod account;
+pub mod body;
 mod branch;
 pub mod call;
 #[cfg(feature = "live")]
@@ -11,7 +11,7 @@ pub mod count;
 mod counts;
 #[cfg(feature = "live")]
 pub mod damage;
-mod document;
+pub mod document;
 mod exhaustive;
 mod generator;
 #[cfg(feature = "live")]
@@ -22,12 +22,12 @@ pub mod limits;
 #[cfg(feature = "live")]
 pub mod memory;
 mod original;
-mod parts;
+pub mod parts;
 pub mod record;
 #[cfg(feature = "live")]
 mod redo;
 mod rows;
-mod run;
+pub mod run;
 pub mod stream;
 
 #[cfg(test)]

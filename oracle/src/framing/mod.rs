@@ -1,11 +1,11 @@
 //! Framing and cost of one body: cases, the original's answers, and what is done with them.
 
-mod answer;
+pub mod answer;
 mod bodies;
 pub mod case;
 mod case_list;
 mod families;
-mod generator;
+pub mod generator;
 pub mod record;
 
 #[cfg(feature = "live")]
