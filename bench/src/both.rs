@@ -1,0 +1,256 @@
+//! One measured call on both sides, each time on the same content.
+
+use crate::counts::counting;
+use crate::held::Held;
+use crate::lent::Lent;
+use crate::port;
+use crate::shape::{Call, NEW_ID, NOW, Shape, id_of};
+use crate::sums;
+use crate::timing::ticks_of;
+use oracle::original::Limits;
+use std::hint::black_box;
+
+/// Ticks and calls.
+type Spent = (u64, u64);
+
+/// Queries of the original take some nanoseconds, so many are timed at once.
+const RUST_QUERIES: u64 = 64;
+
+pub struct Both {
+    pub shape: Shape,
+    pub lent: Lent,
+    pub held: Held,
+    body: Vec<u8>,
+}
+
+impl Both {
+    pub fn new(shape: Shape) -> Self {
+        let body = vec![3; shape.length];
+        Self { shape, lent: Lent::new(&shape), held: Held::new(&shape), body }
+    }
+
+    fn halved(&self) -> Limits {
+        let limits = self.shape.limits;
+        Limits { templates: (limits.templates / 2).max(1), ..limits }
+    }
+
+    /// Queries of few bodies are timed several at once too.
+    fn queries(&self) -> u64 {
+        if counting() { 1 } else { (16_384 / self.shape.bodies() as u64).clamp(1, 32) }
+    }
+
+    fn rust_queries(&self) -> u64 {
+        if counting() { 1 } else { RUST_QUERIES }
+    }
+
+    /// The proved library's call.
+    pub fn ours(&mut self) -> Spent {
+        let newest = id_of(self.shape.newest());
+        let length = self.shape.length;
+        match self.shape.call {
+            Call::WouldAccept | Call::Figures | Call::PlaceHandedOut => return self.our_query(),
+            _ => self.lent.restore(),
+        }
+        let halved = self.halved();
+        let limits = self.shape.limits;
+        let per = self.shape.count_of(self.shape.newest());
+        let Lent { words, bytes, .. } = &mut self.lent;
+        let body = black_box(&self.body[..length]);
+        let (ticks, number) = match self.shape.call {
+            Call::OfferHeld | Call::OfferFull | Call::OfferEvictsBytes | Call::OfferPacks => {
+                ticks_of(|| port::offer(words, bytes, newest, body, NOW))
+            }
+            Call::OfferNew | Call::OfferEvicts => {
+                ticks_of(|| port::offer(words, bytes, NEW_ID, body, NOW))
+            }
+            Call::Drain => {
+                let (ticks, (number, handed)) = ticks_of(|| port::drain(words, bytes, newest, NOW));
+                assert_eq!(handed, per as u64);
+                (ticks, number)
+            }
+            Call::PutBack => ticks_of(|| port::put_back(words, bytes, newest, per)),
+            Call::Resize => {
+                let (ticks, (number, dropped)) = ticks_of(|| port::resize(words, bytes, limits));
+                assert_eq!(dropped, 0);
+                (ticks, number)
+            }
+            Call::ResizeHalves => {
+                let (ticks, (number, _)) = ticks_of(|| port::resize(words, bytes, halved));
+                (ticks, number)
+            }
+            Call::Clear => ticks_of(|| port::clear(words, bytes)),
+            Call::WouldAccept | Call::Figures | Call::PlaceHandedOut => unreachable!(),
+        };
+        let expected = if self.shape.call == Call::OfferFull { 20 } else { 0 };
+        assert_eq!(number, expected, "{:?}", self.shape);
+        (ticks, 1)
+    }
+
+    fn our_query(&mut self) -> Spent {
+        let id = id_of(self.shape.newest());
+        let length = self.shape.length;
+        let last = self.shape.count_of(self.shape.newest()) - 1;
+        let queries = self.queries();
+        let (words, bytes) = (&self.lent.words[..], &self.lent.bytes[..]);
+        let (ticks, number) = match self.shape.call {
+            Call::WouldAccept => ticks_of(|| {
+                let query = || port::would_accept(black_box(words), bytes, id, length, NOW);
+                (0..queries).map(|_| query().0).sum::<u32>()
+            }),
+            Call::Figures => ticks_of(|| {
+                let query = || port::figures(black_box(words), bytes);
+                (0..queries).map(|_| query().0).sum::<u32>()
+            }),
+            _ => ticks_of(|| {
+                let query = || port::place_handed_out(black_box(words), bytes, last);
+                (0..queries).map(|_| query().0).sum::<u32>()
+            }),
+        };
+        assert_eq!(number, 0);
+        (ticks, queries)
+    }
+
+    /// The original's call. What it needs to be as before is done outside of the timed part.
+    pub fn rust(&mut self) -> Spent {
+        match self.shape.call {
+            Call::WouldAccept | Call::Figures | Call::PlaceHandedOut => self.rust_query(),
+            Call::OfferHeld | Call::OfferFull | Call::OfferPacks | Call::OfferNew => {
+                self.rust_offer()
+            }
+            Call::OfferEvicts | Call::OfferEvictsBytes => self.rust_eviction(),
+            Call::Drain | Call::PutBack => self.rust_drain(),
+            Call::Resize | Call::ResizeHalves | Call::Clear => self.rust_removal(),
+        }
+    }
+
+    fn rust_query(&mut self) -> Spent {
+        let (id, length) = (self.held.newest(), self.shape.length);
+        let queries = self.rust_queries();
+        let cache = &self.held.cache;
+        let (ticks, _) = match self.shape.call {
+            Call::WouldAccept => ticks_of(|| {
+                for _ in 0..queries {
+                    black_box(cache.would_accept(black_box(id), length, NOW));
+                }
+            }),
+            _ => ticks_of(|| {
+                for _ in 0..queries {
+                    black_box(black_box(cache).figures());
+                }
+            }),
+        };
+        (ticks, queries)
+    }
+
+    /// The original takes the body itself, so its copy is in the timed part.
+    fn rust_offer(&mut self) -> Spent {
+        let id = if self.shape.call == Call::OfferNew { NEW_ID } else { self.held.newest() };
+        let body = black_box(&self.body[..]);
+        let cache = &mut self.held.cache;
+        let (ticks, refused) = ticks_of(|| cache.offer(id, body.to_vec(), NOW));
+        assert_eq!(refused.is_some(), self.shape.call == Call::OfferFull);
+        match self.shape.call {
+            Call::OfferFull => (),
+            Call::OfferNew => assert_eq!(cache.drain(id, NOW).len(), 1),
+            _ => self.held.take_back(id),
+        }
+        (ticks, 1)
+    }
+
+    /// Afterwards as many templates of as many bodies are held, under other ids or in another
+    /// order.
+    fn rust_eviction(&mut self) -> Spent {
+        let by_bytes = self.shape.call == Call::OfferEvictsBytes;
+        let id = if by_bytes { self.held.newest() } else { self.held.next_id() };
+        let body = black_box(&self.body[..]);
+        let cache = &mut self.held.cache;
+        let (ticks, refused) = ticks_of(|| cache.offer(id, body.to_vec(), NOW));
+        assert!(refused.is_none());
+        let evicted = self.held.order.pop_front().expect("there is a template");
+        if by_bytes {
+            self.held.order.pop_back();
+            self.held.add(evicted);
+            self.held.take_back(id);
+            self.held.order.push_back(id);
+        } else {
+            self.held.cache.drain(id, NOW);
+            self.held.add(id);
+        }
+        (ticks, 1)
+    }
+
+    fn rust_drain(&mut self) -> Spent {
+        let id = self.held.newest();
+        let cache = &mut self.held.cache;
+        if self.shape.call == Call::Drain {
+            let (ticks, bodies) = ticks_of(|| cache.drain(id, NOW));
+            cache.restore_replay_suffix(id, bodies);
+            return (ticks, 1);
+        }
+        let bodies = self.held.handed.take().expect("a template is handed out");
+        let (ticks, ()) = ticks_of(|| cache.restore_replay_suffix(id, bodies));
+        self.held.handed = Some(cache.drain(id, NOW));
+        (ticks, 1)
+    }
+
+    fn rust_removal(&mut self) -> Spent {
+        let limits = self.shape.limits;
+        let halved = self.halved();
+        let cache = &mut self.held.cache;
+        match self.shape.call {
+            Call::Resize => {
+                let (ticks, dropped) = ticks_of(|| cache.resize(limits));
+                assert_eq!(dropped, Some(0));
+                (ticks, 1)
+            }
+            Call::ResizeHalves => {
+                let (ticks, _) = ticks_of(|| cache.resize(halved));
+                cache.resize(limits).expect("legal limits");
+                for _ in halved.templates..limits.templates {
+                    let id = self.held.order.pop_front().expect("there is a template");
+                    self.held.add(id);
+                }
+                (ticks, 1)
+            }
+            _ => {
+                let (ticks, ()) = ticks_of(|| cache.clear());
+                let shape = self.shape;
+                self.held.fill(&shape);
+                (ticks, 1)
+            }
+        }
+    }
+
+    /// A sum over the live words, which are as warm as they are for the call.
+    pub fn scalar(&mut self) -> Spent {
+        self.sum(sums::scalar)
+    }
+
+    pub fn vectorised(&mut self) -> Spent {
+        self.sum(sums::vectorised)
+    }
+
+    fn sum(&mut self, sum: fn(&[u64]) -> u64) -> Spent {
+        let query =
+            matches!(self.shape.call, Call::WouldAccept | Call::Figures | Call::PlaceHandedOut);
+        let times = if query { self.queries() } else { 1 };
+        if !query {
+            self.lent.restore();
+        }
+        let (front, records) = self.lent.live();
+        let (ticks, _) = ticks_of(|| {
+            for _ in 0..times {
+                black_box(sum(black_box(front)).wrapping_add(sum(black_box(records))));
+            }
+        });
+        (ticks, times)
+    }
+
+    /// The bytes of all bodies moved to the front at once.
+    pub fn memmove(&mut self) -> Spent {
+        let (from, to) = (self.shape.gap.max(self.shape.length), self.lent.bytes.len());
+        let bytes = black_box(&mut self.lent.bytes);
+        let (ticks, ()) = ticks_of(|| bytes.copy_within(from..to, 0));
+        (ticks, 1)
+    }
+}

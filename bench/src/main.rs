@@ -1,0 +1,67 @@
+//! Measures the proved library against the original Rust text. README.md has the commands.
+
+mod both;
+mod cache_rows;
+mod counts;
+mod figures;
+mod held;
+mod lent;
+mod port;
+mod preflight_rows;
+mod shape;
+mod sums;
+mod timing;
+
+use std::process::ExitCode;
+use std::time::Duration;
+use timing::{Budget, Clock};
+
+const USAGE: &str = "\
+usage: bench [quick] preflight
+       bench [quick] cache [WORD]    tables whose name has the word
+       bench [quick] orders
+       bench [quick] moves
+       bench counts                  instructions, by valgrind
+       bench repeat NAME TEMPLATES BODIES    one table's call again and again, for a profiler";
+
+const QUICK: Budget = Budget { time: Duration::from_millis(60), least_runs: 5, most_runs: 2_000 };
+const FULL: Budget = Budget { time: Duration::from_millis(600), least_runs: 15, most_runs: 20_000 };
+
+fn main() -> ExitCode {
+    let arguments: Vec<String> = std::env::args().skip(1).collect();
+    let arguments: Vec<&str> = arguments.iter().map(String::as_str).collect();
+    let (budget, words) = match &arguments[..] {
+        ["quick", rest @ ..] => (QUICK, rest),
+        all => (FULL, all),
+    };
+    if words == ["counted"] {
+        counts::run();
+        return ExitCode::SUCCESS;
+    }
+    let clock = Clock::new();
+    match words {
+        ["repeat", name, templates, bodies] => {
+            let (Ok(templates), Ok(bodies)) = (templates.parse(), bodies.parse()) else {
+                eprintln!("{USAGE}");
+                return ExitCode::FAILURE;
+            };
+            cache_rows::repeat(name, templates, bodies);
+        }
+        ["counts"] => {
+            if let Err(message) = counts::print() {
+                eprintln!("{message}");
+                return ExitCode::FAILURE;
+            }
+        }
+        ["preflight"] => preflight_rows::print(clock, budget),
+        ["cache"] => cache_rows::print(clock, budget, ""),
+        ["cache", word] => cache_rows::print(clock, budget, word),
+        ["orders"] => cache_rows::print_orders(clock, budget),
+        ["moves"] => cache_rows::print_moves(clock, budget),
+        _ => {
+            eprintln!("{USAGE}");
+            return ExitCode::FAILURE;
+        }
+    }
+    ExitCode::SUCCESS
+}
