@@ -20,6 +20,7 @@ impl Lent {
         let records_at = HEADER + 4 * limits.templates * limits.bodies;
         let mut words = vec![0; records_at + 8 * limits.templates];
         let bytes = vec![0; limits.total];
+        assert_eq!(port::open(&mut words, &bytes, limits), 0, "{shape:?}");
         let front = front(shape);
         let records = records(shape);
         words[..front.len()].copy_from_slice(&front);

@@ -9,6 +9,7 @@ mod lent;
 mod port;
 mod preflight_rows;
 mod shape;
+mod stack;
 mod sums;
 mod timing;
 
@@ -21,6 +22,7 @@ usage: bench [quick] preflight
        bench [quick] cache [WORD]    tables whose name has the word
        bench [quick] orders
        bench [quick] moves
+       bench stack                   how deep each call writes into the stack
        bench counts                  instructions, by valgrind
        bench repeat NAME TEMPLATES BODIES    one table's call again and again, for a profiler";
 
@@ -47,6 +49,7 @@ fn main() -> ExitCode {
             };
             cache_rows::repeat(name, templates, bodies);
         }
+        ["stack"] => stack::print(),
         ["counts"] => {
             if let Err(message) = counts::print() {
                 eprintln!("{message}");
