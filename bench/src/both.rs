@@ -6,15 +6,17 @@ use crate::lent::Lent;
 use crate::port;
 use crate::shape::{Call, NEW_ID, NOW, Shape, id_of};
 use crate::sums;
-use crate::timing::ticks_of;
+use crate::timing::time_of;
 use oracle::original::Limits;
 use std::hint::black_box;
 
-/// Ticks and calls.
-type Spent = (u64, u64);
+/// Nanoseconds and calls.
+type Spent = (f64, u64);
 
-/// Queries of the original take some nanoseconds, so many are timed at once.
-const RUST_QUERIES: u64 = 64;
+/// Queries that are timed at once: as many as look at so many bodies, but not more than these.
+const LOOKED_AT: usize = 16_384;
+const OUR_QUERIES: usize = 32;
+const RUST_QUERIES: usize = 64;
 
 pub struct Both {
     pub shape: Shape,
@@ -34,13 +36,23 @@ impl Both {
         Limits { templates: (limits.templates / 2).max(1), ..limits }
     }
 
-    /// Queries of few bodies are timed several at once too.
+    /// All bodies are looked at.
     fn queries(&self) -> u64 {
-        if counting() { 1 } else { (16_384 / self.shape.bodies() as u64).clamp(1, 32) }
+        self.queries_of(self.shape.bodies(), OUR_QUERIES)
     }
 
+    /// With a TTL the bodies of one template are looked at; for the figures, all templates.
     fn rust_queries(&self) -> u64 {
-        if counting() { 1 } else { RUST_QUERIES }
+        let looked_at = match (self.shape.call, self.shape.limits.ttl) {
+            (Call::WouldAccept, None) => 1,
+            (Call::WouldAccept, Some(_)) => self.shape.per,
+            _ => self.shape.templates,
+        };
+        self.queries_of(looked_at, RUST_QUERIES)
+    }
+
+    fn queries_of(&self, looked_at: usize, most: usize) -> u64 {
+        if counting() { 1 } else { (LOOKED_AT / looked_at).clamp(1, most) as u64 }
     }
 
     /// The proved library's call.
@@ -56,34 +68,34 @@ impl Both {
         let per = self.shape.count_of(self.shape.newest());
         let Lent { words, bytes, .. } = &mut self.lent;
         let body = black_box(&self.body[..length]);
-        let (ticks, number) = match self.shape.call {
+        let (time, number) = match self.shape.call {
             Call::OfferHeld | Call::OfferFull | Call::OfferEvictsBytes | Call::OfferPacks => {
-                ticks_of(|| port::offer(words, bytes, newest, body, NOW))
+                time_of(|| port::offer(words, bytes, newest, body, NOW))
             }
             Call::OfferNew | Call::OfferEvicts => {
-                ticks_of(|| port::offer(words, bytes, NEW_ID, body, NOW))
+                time_of(|| port::offer(words, bytes, NEW_ID, body, NOW))
             }
             Call::Drain => {
-                let (ticks, (number, handed)) = ticks_of(|| port::drain(words, bytes, newest, NOW));
+                let (time, (number, handed)) = time_of(|| port::drain(words, bytes, newest, NOW));
                 assert_eq!(handed, per as u64);
-                (ticks, number)
+                (time, number)
             }
-            Call::PutBack => ticks_of(|| port::put_back(words, bytes, newest, per)),
+            Call::PutBack => time_of(|| port::put_back(words, bytes, newest, per)),
             Call::Resize => {
-                let (ticks, (number, dropped)) = ticks_of(|| port::resize(words, bytes, limits));
+                let (time, (number, dropped)) = time_of(|| port::resize(words, bytes, limits));
                 assert_eq!(dropped, 0);
-                (ticks, number)
+                (time, number)
             }
             Call::ResizeHalves => {
-                let (ticks, (number, _)) = ticks_of(|| port::resize(words, bytes, halved));
-                (ticks, number)
+                let (time, (number, _)) = time_of(|| port::resize(words, bytes, halved));
+                (time, number)
             }
-            Call::Clear => ticks_of(|| port::clear(words, bytes)),
+            Call::Clear => time_of(|| port::clear(words, bytes)),
             Call::WouldAccept | Call::Figures | Call::PlaceHandedOut => unreachable!(),
         };
         let expected = if self.shape.call == Call::OfferFull { 20 } else { 0 };
         assert_eq!(number, expected, "{:?}", self.shape);
-        (ticks, 1)
+        (time, 1)
     }
 
     fn our_query(&mut self) -> Spent {
@@ -92,22 +104,24 @@ impl Both {
         let last = self.shape.count_of(self.shape.newest()) - 1;
         let queries = self.queries();
         let (words, bytes) = (&self.lent.words[..], &self.lent.bytes[..]);
-        let (ticks, number) = match self.shape.call {
-            Call::WouldAccept => ticks_of(|| {
+        // Warm, as after a call.
+        assert_eq!(port::figures(words, bytes).0, 0);
+        let (time, number) = match self.shape.call {
+            Call::WouldAccept => time_of(|| {
                 let query = || port::would_accept(black_box(words), bytes, id, length, NOW);
                 (0..queries).map(|_| query().0).sum::<u32>()
             }),
-            Call::Figures => ticks_of(|| {
+            Call::Figures => time_of(|| {
                 let query = || port::figures(black_box(words), bytes);
                 (0..queries).map(|_| query().0).sum::<u32>()
             }),
-            _ => ticks_of(|| {
+            _ => time_of(|| {
                 let query = || port::place_handed_out(black_box(words), bytes, last);
                 (0..queries).map(|_| query().0).sum::<u32>()
             }),
         };
         assert_eq!(number, 0);
-        (ticks, queries)
+        (time, queries)
     }
 
     /// The original's call. What it needs to be as before is done outside of the timed part.
@@ -127,19 +141,19 @@ impl Both {
         let (id, length) = (self.held.newest(), self.shape.length);
         let queries = self.rust_queries();
         let cache = &self.held.cache;
-        let (ticks, _) = match self.shape.call {
-            Call::WouldAccept => ticks_of(|| {
+        let (time, _) = match self.shape.call {
+            Call::WouldAccept => time_of(|| {
                 for _ in 0..queries {
                     black_box(cache.would_accept(black_box(id), length, NOW));
                 }
             }),
-            _ => ticks_of(|| {
+            _ => time_of(|| {
                 for _ in 0..queries {
                     black_box(black_box(cache).figures());
                 }
             }),
         };
-        (ticks, queries)
+        (time, queries)
     }
 
     /// The original takes the body itself, so its copy is in the timed part.
@@ -147,14 +161,14 @@ impl Both {
         let id = if self.shape.call == Call::OfferNew { NEW_ID } else { self.held.newest() };
         let body = black_box(&self.body[..]);
         let cache = &mut self.held.cache;
-        let (ticks, refused) = ticks_of(|| cache.offer(id, body.to_vec(), NOW));
+        let (time, refused) = time_of(|| cache.offer(id, body.to_vec(), NOW));
         assert_eq!(refused.is_some(), self.shape.call == Call::OfferFull);
         match self.shape.call {
             Call::OfferFull => (),
             Call::OfferNew => assert_eq!(cache.drain(id, NOW).len(), 1),
             _ => self.held.take_back(id),
         }
-        (ticks, 1)
+        (time, 1)
     }
 
     /// Afterwards as many templates of as many bodies are held, under other ids or in another
@@ -164,7 +178,7 @@ impl Both {
         let id = if by_bytes { self.held.newest() } else { self.held.next_id() };
         let body = black_box(&self.body[..]);
         let cache = &mut self.held.cache;
-        let (ticks, refused) = ticks_of(|| cache.offer(id, body.to_vec(), NOW));
+        let (time, refused) = time_of(|| cache.offer(id, body.to_vec(), NOW));
         assert!(refused.is_none());
         let evicted = self.held.order.pop_front().expect("there is a template");
         if by_bytes {
@@ -176,21 +190,21 @@ impl Both {
             self.held.cache.drain(id, NOW);
             self.held.add(id);
         }
-        (ticks, 1)
+        (time, 1)
     }
 
     fn rust_drain(&mut self) -> Spent {
         let id = self.held.newest();
         let cache = &mut self.held.cache;
         if self.shape.call == Call::Drain {
-            let (ticks, bodies) = ticks_of(|| cache.drain(id, NOW));
+            let (time, bodies) = time_of(|| cache.drain(id, NOW));
             cache.restore_replay_suffix(id, bodies);
-            return (ticks, 1);
+            return (time, 1);
         }
         let bodies = self.held.handed.take().expect("a template is handed out");
-        let (ticks, ()) = ticks_of(|| cache.restore_replay_suffix(id, bodies));
+        let (time, ()) = time_of(|| cache.restore_replay_suffix(id, bodies));
         self.held.handed = Some(cache.drain(id, NOW));
-        (ticks, 1)
+        (time, 1)
     }
 
     fn rust_removal(&mut self) -> Spent {
@@ -199,24 +213,24 @@ impl Both {
         let cache = &mut self.held.cache;
         match self.shape.call {
             Call::Resize => {
-                let (ticks, dropped) = ticks_of(|| cache.resize(limits));
+                let (time, dropped) = time_of(|| cache.resize(limits));
                 assert_eq!(dropped, Some(0));
-                (ticks, 1)
+                (time, 1)
             }
             Call::ResizeHalves => {
-                let (ticks, _) = ticks_of(|| cache.resize(halved));
+                let (time, _) = time_of(|| cache.resize(halved));
                 cache.resize(limits).expect("legal limits");
                 for _ in halved.templates..limits.templates {
                     let id = self.held.order.pop_front().expect("there is a template");
                     self.held.add(id);
                 }
-                (ticks, 1)
+                (time, 1)
             }
             _ => {
-                let (ticks, ()) = ticks_of(|| cache.clear());
+                let (time, ()) = time_of(|| cache.clear());
                 let shape = self.shape;
                 self.held.fill(&shape);
-                (ticks, 1)
+                (time, 1)
             }
         }
     }
@@ -234,23 +248,25 @@ impl Both {
         let query =
             matches!(self.shape.call, Call::WouldAccept | Call::Figures | Call::PlaceHandedOut);
         let times = if query { self.queries() } else { 1 };
-        if !query {
+        if query {
+            port::figures(&self.lent.words, &self.lent.bytes);
+        } else {
             self.lent.restore();
         }
         let (front, records) = self.lent.live();
-        let (ticks, _) = ticks_of(|| {
+        let (time, _) = time_of(|| {
             for _ in 0..times {
                 black_box(sum(black_box(front)).wrapping_add(sum(black_box(records))));
             }
         });
-        (ticks, times)
+        (time, times)
     }
 
     /// The bytes of all bodies moved to the front at once.
     pub fn memmove(&mut self) -> Spent {
         let (from, to) = (self.shape.gap.max(self.shape.length), self.lent.bytes.len());
         let bytes = black_box(&mut self.lent.bytes);
-        let (ticks, ()) = ticks_of(|| bytes.copy_within(from..to, 0));
-        (ticks, 1)
+        let (time, ()) = time_of(|| bytes.copy_within(from..to, 0));
+        (time, 1)
     }
 }

@@ -3,7 +3,7 @@
 use crate::both::Both;
 use crate::figures::{grouped, ratio, time};
 use crate::shape::{Call, Order, Shape};
-use crate::timing::{Budget, Clock, interleaved};
+use crate::timing::{Budget, interleaved};
 use std::time::{Duration, Instant};
 
 /// Templates and bodies: a few templates, many, one, and one body each.
@@ -49,7 +49,7 @@ pub const TABLES: [(Call, bool, &str); 17] = [
 ];
 
 /// Prints the tables whose name has the word.
-pub fn print(clock: Clock, budget: Budget, word: &str) {
+pub fn print(budget: Budget, word: &str) {
     for (call, ttl, name) in TABLES {
         if !name.contains(word) {
             continue;
@@ -64,13 +64,13 @@ pub fn print(clock: Clock, budget: Budget, word: &str) {
             if call == Call::OfferEvictsBytes && templates == 1 {
                 continue;
             }
-            print_row(clock, budget, Shape::new(call, templates, bodies, ttl, LENGTH));
+            print_row(budget, Shape::new(call, templates, bodies, ttl, LENGTH));
         }
     }
 }
 
 /// Other orders of arrival.
-pub fn print_orders(clock: Clock, budget: Budget) {
+pub fn print_orders(budget: Budget) {
     println!("\n### Order of arrival\n");
     println!(
         "| call, order | templates | bodies | ours | Rust | ours / Rust | scalar sum \
@@ -83,16 +83,15 @@ pub fn print_orders(clock: Clock, budget: Budget) {
             for templates in [16, 1_024] {
                 print!("| {call:?}, {order:?} ");
                 let shape = Shape::new(call, templates, 65_536, false, LENGTH);
-                print_row(clock, budget, Shape { order, ..shape });
+                print_row(budget, Shape { order, ..shape });
             }
         }
     }
 }
 
-fn print_row(clock: Clock, budget: Budget, shape: Shape) {
+fn print_row(budget: Budget, shape: Shape) {
     let mut both = Both::new(shape);
     let taken = interleaved(
-        clock,
         budget,
         &mut both,
         &mut [&mut Both::ours, &mut Both::rust, &mut Both::scalar, &mut Both::vectorised],
@@ -115,7 +114,7 @@ fn print_row(clock: Clock, budget: Budget, shape: Shape) {
 }
 
 /// Bodies that must all be moved before one is stored, beside one memmove of the same bytes.
-pub fn print_moves(clock: Clock, budget: Budget) {
+pub fn print_moves(budget: Budget) {
     println!("\n### offer for which all bodies are packed first\n");
     println!(
         "| call | templates | bodies | of bytes | bytes moved | ours | offer without | memmove \
@@ -135,16 +134,15 @@ pub fn print_moves(clock: Clock, budget: Budget) {
             (16, 256, 1_500),
             (16, 16, 1_500),
         ] {
-            print_move(clock, budget, Shape::new(call, templates, bodies, false, length));
+            print_move(budget, Shape::new(call, templates, bodies, false, length));
         }
     }
 }
 
-fn print_move(clock: Clock, budget: Budget, shape: Shape) {
+fn print_move(budget: Budget, shape: Shape) {
     let plain = Shape::new(Call::OfferHeld, shape.templates, shape.bodies() - 1, false, 64);
     let mut states = (Both::new(shape), Both::new(plain));
     let taken = interleaved(
-        clock,
         budget,
         &mut states,
         &mut [&mut |states| states.0.ours(), &mut |states| states.1.ours(), &mut |states| {

@@ -15,7 +15,7 @@ mod timing;
 
 use std::process::ExitCode;
 use std::time::Duration;
-use timing::{Budget, Clock};
+use timing::Budget;
 
 const USAGE: &str = "\
 usage: bench [quick] preflight
@@ -26,8 +26,8 @@ usage: bench [quick] preflight
        bench counts                  instructions, by valgrind
        bench repeat NAME TEMPLATES BODIES    one table's call again and again, for a profiler";
 
-const QUICK: Budget = Budget { time: Duration::from_millis(60), least_runs: 5, most_runs: 2_000 };
-const FULL: Budget = Budget { time: Duration::from_millis(600), least_runs: 15, most_runs: 20_000 };
+const QUICK: Budget = Budget { time: Duration::from_millis(50), runs: 10 };
+const FULL: Budget = Budget { time: Duration::from_millis(500), runs: 50 };
 
 fn main() -> ExitCode {
     let arguments: Vec<String> = std::env::args().skip(1).collect();
@@ -40,7 +40,6 @@ fn main() -> ExitCode {
         counts::run();
         return ExitCode::SUCCESS;
     }
-    let clock = Clock::new();
     match words {
         ["repeat", name, templates, bodies] => {
             let (Ok(templates), Ok(bodies)) = (templates.parse(), bodies.parse()) else {
@@ -56,11 +55,11 @@ fn main() -> ExitCode {
                 return ExitCode::FAILURE;
             }
         }
-        ["preflight"] => preflight_rows::print(clock, budget),
-        ["cache"] => cache_rows::print(clock, budget, ""),
-        ["cache", word] => cache_rows::print(clock, budget, word),
-        ["orders"] => cache_rows::print_orders(clock, budget),
-        ["moves"] => cache_rows::print_moves(clock, budget),
+        ["preflight"] => preflight_rows::print(budget),
+        ["cache"] => cache_rows::print(budget, ""),
+        ["cache", word] => cache_rows::print(budget, word),
+        ["orders"] => cache_rows::print_orders(budget),
+        ["moves"] => cache_rows::print_moves(budget),
         _ => {
             eprintln!("{USAGE}");
             return ExitCode::FAILURE;

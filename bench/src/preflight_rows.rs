@@ -2,7 +2,7 @@
 
 use crate::figures::{grouped, ratio, time};
 use crate::port;
-use crate::timing::{Budget, Clock, interleaved, ticks_of};
+use crate::timing::{Budget, interleaved, time_of};
 use oracle::original;
 use std::hint::black_box;
 
@@ -38,7 +38,7 @@ const VARIABLES: [Template; 5] = [
     Template { name: "4 fixed", widths: &[4, 4, 2, 2], content: (0, 0) },
 ];
 
-pub fn print(clock: Clock, budget: Budget) {
+pub fn print(budget: Budget) {
     println!("\n### preflight\n");
     println!("| reading | fields | body | records | ours | Rust | ours / Rust |");
     println!("|---|---|---:|---:|---:|---:|---:|");
@@ -46,13 +46,13 @@ pub fn print(clock: Clock, budget: Budget) {
         let size: usize = FLOW.iter().map(|&width| usize::from(width)).sum();
         let body = vec![1; (length - length % size).max(size)];
         let (ours, rust): (Ours, Rust) = (port::preflight_v9_fixed, original::preflight_v9_fixed);
-        row(clock, budget, "v9 fixed", "12 fixed", &body, &FLOW, (ours, rust));
+        row(budget, "v9 fixed", "12 fixed", &body, &FLOW, (ours, rust));
     }
     for length in LENGTHS {
         let body = vec![1; length];
         let (ours, rust): (Ours, Rust) =
             (port::preflight_ipfix_fixed, original::preflight_ipfix_fixed);
-        row(clock, budget, "IPFIX fixed", "12 fixed", &body, &FLOW, (ours, rust));
+        row(budget, "IPFIX fixed", "12 fixed", &body, &FLOW, (ours, rust));
     }
     for template in VARIABLES {
         for length in LENGTHS {
@@ -60,7 +60,7 @@ pub fn print(clock: Clock, budget: Budget) {
             let (ours, rust): (Ours, Rust) =
                 (port::preflight_ipfix_variable, original::preflight_ipfix_variable);
             let widths = template.widths;
-            row(clock, budget, "IPFIX variable", template.name, &body, widths, (ours, rust));
+            row(budget, "IPFIX variable", template.name, &body, widths, (ours, rust));
         }
     }
 }
@@ -97,7 +97,6 @@ impl Template {
 }
 
 fn row(
-    clock: Clock,
     budget: Budget,
     reading: &str,
     fields: &str,
@@ -110,25 +109,24 @@ fn row(
     let scanned = if reading == "IPFIX variable" { body.len() } else { 1 };
     let times = (RUN_BYTES / scanned).clamp(1, RUN) as u64;
     let taken = interleaved(
-        clock,
         budget,
         &mut (),
         &mut [
             &mut |_| {
-                let (ticks, ()) = ticks_of(|| {
+                let (time, ()) = time_of(|| {
                     for _ in 0..times {
                         black_box(ours(black_box(body), black_box(widths), NO_LIMIT));
                     }
                 });
-                (ticks, times)
+                (time, times)
             },
             &mut |_| {
-                let (ticks, ()) = ticks_of(|| {
+                let (time, ()) = time_of(|| {
                     for _ in 0..times {
                         black_box(rust(black_box(body), black_box(widths), NO_LIMIT));
                     }
                 });
-                (ticks, times)
+                (time, times)
             },
         ],
     );
