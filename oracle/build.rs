@@ -1,5 +1,5 @@
-//! Makes the original text ready for `include!`, and finds the ported libraries for the
-//! features `live` and `live-cache`.
+//! Makes the original text ready for `include!`, and finds the ported library for the feature
+//! `live`.
 
 use std::path::{Path, PathBuf};
 use std::{env, fs};
@@ -34,10 +34,7 @@ fn main() {
         prepare(&source, name, &out);
     }
     if env::var_os("CARGO_FEATURE_LIVE").is_some() {
-        link_port("netflow_pending");
-    }
-    if env::var_os("CARGO_FEATURE_LIVE_CACHE").is_some() {
-        link_port("live_cache");
+        link_port();
     }
 }
 
@@ -84,10 +81,10 @@ fn plain_head(text: &str) -> String {
     prepared + rest
 }
 
-fn link_port(name: &str) {
+fn link_port() {
     let library = folder("NETFLOW_PENDING_LIB_DIR", DEFAULT_LIBRARY);
-    let archive = library.join(format!("lib{name}.a"));
+    let archive = library.join("libnetflow_pending.a");
     println!("cargo::rerun-if-changed={}", archive.display());
     println!("cargo::rustc-link-search=native={}", library.display());
-    println!("cargo::rustc-link-lib=static={name}");
+    println!("cargo::rustc-link-lib=static=netflow_pending");
 }

@@ -6,7 +6,7 @@ mod checks;
 mod clock;
 mod framing;
 mod numbers;
-#[cfg(any(feature = "live", feature = "live-cache"))]
+#[cfg(feature = "live")]
 mod port;
 mod random;
 mod template_store;
@@ -25,8 +25,9 @@ usage: oracle record-framing FILE
        oracle stream-cache-defaults [SEED [CALLS]]
        oracle count-cache [SEED [LISTS]]
        oracle compare-framing [SEED [COUNT]]   (feature live)
-       oracle compare-cache [SEED [LISTS]]     (feature live-cache)
-       oracle damage-cache [SEED [TRIALS]]     (feature live-cache)";
+       oracle compare-cache [SEED [LISTS]]     (feature live)
+       oracle damage-cache [SEED [TRIALS]]     (feature live)
+       oracle memory-cache [SEED [TRIALS]]     (feature live)";
 
 fn main() -> ExitCode {
     let arguments: Vec<String> = std::env::args().skip(1).collect();
@@ -66,15 +67,20 @@ fn run(arguments: &[&str]) -> Result<ExitCode, String> {
             let (seed, count) = seed_and_count(rest, framing::compare::DEFAULTS)?;
             framing::compare::run(seed, count)
         }
-        #[cfg(feature = "live-cache")]
+        #[cfg(feature = "live")]
         ["compare-cache", rest @ ..] => {
             let (seed, lists) = seed_and_count(rest, cache::compare::DEFAULTS)?;
             cache::compare::run(seed, lists)
         }
-        #[cfg(feature = "live-cache")]
+        #[cfg(feature = "live")]
         ["damage-cache", rest @ ..] => {
             let (seed, trials) = seed_and_count(rest, cache::damage::DEFAULTS)?;
             cache::damage::run(seed, trials)
+        }
+        #[cfg(feature = "live")]
+        ["memory-cache", rest @ ..] => {
+            let (seed, trials) = seed_and_count(rest, cache::memory::DEFAULTS)?;
+            cache::memory::run(seed, trials)
         }
         _ => Err(USAGE.to_string()),
     }

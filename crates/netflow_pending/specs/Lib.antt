@@ -1,1 +1,2 @@
 pub mod Framing
+pub mod Cache

@@ -5,12 +5,13 @@ use super::body::body;
 use super::call::{Answer, Call};
 use super::counts::{Counts, Table as CountTable};
 use super::layout::{self, Entry, Table};
-use super::lent::{Lent, Tail};
+use super::lent::{Blocks, Lent, Tail};
 use super::limits::{Areas, Limits};
 use super::original::{HeldBody, State};
 use super::parts::{Part, Taker};
 use super::run::Run;
 use crate::numbers::DONE;
+use crate::port;
 use std::process::ExitCode;
 use std::time::{Duration, Instant};
 
@@ -30,8 +31,12 @@ pub fn run(seed: u64, lists: u64) -> Result<ExitCode, String> {
         Part::Middle { seed },
         Part::Defaults { seed, calls: DEFAULT_LIMITS_CALLS },
     ];
+    run_on(Blocks::Guarded, &parts)
+}
+
+pub fn run_on(blocks: Blocks, parts: &[Part]) -> Result<ExitCode, String> {
     let mut counts = Vec::new();
-    let mut comparison = Comparison::default();
+    let mut comparison = Comparison { blocks, ..Comparison::default() };
     for part in parts {
         let outcome = part.make(&mut comparison);
         print!("{}: {} calls, ", part.name(), comparison.counts.rows());
@@ -75,6 +80,7 @@ fn smallest(calls: &[Call]) -> Vec<Call> {
 #[derive(Default)]
 struct Comparison {
     run: Option<Run>,
+    blocks: Blocks,
     lent: Lent,
     /// The list so far.
     calls: Vec<Call>,
@@ -117,7 +123,7 @@ impl Comparison {
         let Call::Open { limits, areas } = *call else {
             unreachable!("only openings come here");
         };
-        self.lent = Lent::new(areas);
+        self.lent = Lent::new(areas, self.blocks);
         // No byte is written.
         let from = Areas { bytes: 0, ..need(&limits) };
         self.compare(call, &[], from, areas, Answer::number(DONE), false)
@@ -170,9 +176,14 @@ impl Comparison {
 
         let run = self.run.as_ref().expect(OPENED);
         self.counts.add(call, expected.number, run.account.branches());
-        let is_value_known = !matches!(call, Call::ReadHandedOut { .. });
-        if answer.number != expected.number || is_value_known && answer != expected {
+        if answer != expected {
             return Err(format!("expected {expected:?}, the port answers {answer:?}"));
+        }
+        if let Call::Open { limits, .. } | Call::Resize(limits) = call {
+            let number = port::cache::validate_config(limits, areas);
+            if number != expected.number {
+                return Err(format!("expected {expected:?}, validate_config answers {number}"));
+            }
         }
         if !self.lent.has_tail(&self.tail) {
             return Err("the port wrote past the need".to_string());
@@ -190,6 +201,17 @@ impl Comparison {
         {
             return Err(format!("expected {state:?} with {limits:?}, the port holds {table:?}"));
         }
+        let areas = self.lent.areas();
+        let told = self.lent.figures(areas);
+        if told != Ok(figures(&state)) {
+            return Err(format!("expected {state:?}, the port tells the figures {told:?}"));
+        }
+        if let Call::ReadHandedOut { number } = *call {
+            let body = state.handed.get(number as usize).map(|body| body.bytes);
+            if self.lent.handed_out(number, areas).ok() != body {
+                return Err(format!("the port answers another place than that of {body:?}"));
+            }
+        }
         Ok(())
     }
 
@@ -205,6 +227,12 @@ impl Comparison {
 
 fn need(limits: &Limits) -> Areas {
     limits.areas().expect("an open cache has legal limits")
+}
+
+/// As the call for the figures tells them.
+fn figures(state: &State<'_>) -> [u64; 6] {
+    let State { held, bytes, cached, dropped, handed } = state;
+    [held.len() as u64, state.bodies(), *bytes, *cached, *dropped, handed.len() as u64]
 }
 
 /// Whether the areas hold what the original holds.

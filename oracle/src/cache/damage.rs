@@ -9,11 +9,12 @@ use super::call::{Answer, Call};
 use super::generator::Generator;
 use super::generator::profile::{MIDDLE, Profile, SMALL};
 use super::layout::{self, Entry, Record, Table};
-use super::lent::{Lent, Tail};
+use super::lent::{Blocks, Lent, Tail};
 use super::limits::{Areas, Limits};
 use super::redo;
 use super::run::Run;
 use crate::numbers::{DAMAGED, DONE};
+use crate::port;
 use crate::random::Random;
 use std::collections::BTreeMap;
 use std::process::ExitCode;
@@ -33,6 +34,10 @@ const REDONE_PERCENT: u64 = 40;
 const HEADER_USED: usize = 12;
 
 pub fn run(seed: u64, trials: u64) -> Result<ExitCode, String> {
+    run_on(Blocks::Guarded, seed, trials)
+}
+
+pub fn run_on(blocks: Blocks, seed: u64, trials: u64) -> Result<ExitCode, String> {
     let mut tally = Tally::default();
     let mut random = Random::new(seed);
     while tally.trials < trials {
@@ -40,7 +45,7 @@ pub fn run(seed: u64, trials: u64) -> Result<ExitCode, String> {
         let (profile, longest): (&'static Profile, u64) =
             if middle { (&MIDDLE, MIDDLE_LIST) } else { (&SMALL, SMALL_LIST) };
         let mut generator = Generator::new(random.word(), profile);
-        let source = Source::new(&mut generator, random.below(longest));
+        let source = Source::new(&mut generator, random.below(longest), blocks);
         for _ in 0..TRIALS_OF_LIST {
             if let Err(difference) = tally.trial(&source, &mut random) {
                 println!("trial {}: {difference}", tally.trials);
@@ -59,13 +64,13 @@ struct Source {
 }
 
 impl Source {
-    fn new(generator: &mut Generator, calls: u64) -> Self {
+    fn new(generator: &mut Generator, calls: u64, blocks: Blocks) -> Self {
         let opening = generator.opening();
         let Call::Open { areas, .. } = opening else {
             unreachable!("a list begins with an opening");
         };
         let mut run = Run::open(&opening).expect("the first opening is accepted");
-        let mut lent = Lent::new(areas);
+        let mut lent = Lent::new(areas, blocks);
         lent.answer(&opening, &[], areas);
         for _ in 0..calls {
             let call = generator.next(&run.account);
@@ -149,13 +154,12 @@ impl Tally {
             Err(_) if !self.work.is_same(damaged) => {
                 return Err("answered 28, and the areas changed".to_string());
             }
-            Err(_) => return Ok(()),
+            Err(_) => return self.check_damaged_figures(areas),
             Ok(table) => table,
         };
         let mut expected = Expected::new(table, damaged.bytes(), areas, offered);
         let expected_answer = expected.account.call(call);
-        let is_value_known = !matches!(call, Call::ReadHandedOut { .. });
-        if answer.number != expected_answer.number || is_value_known && answer != expected_answer {
+        if answer != expected_answer {
             return Err(format!("answered {answer:?}, not {expected_answer:?}, on {table:?}"));
         }
         let most = larger(need(&table.limits), need(&expected.account.limits));
@@ -168,7 +172,25 @@ impl Tally {
         if !expected.is_in(&left, self.work.bytes()) {
             return Err(format!("left {left:?}, not {:?}", expected.account));
         }
+        let told = self.work.figures(areas);
+        if told != Ok(figures(&left)) {
+            return Err(format!("left {left:?}, and tells the figures {told:?}"));
+        }
+        if let Call::ReadHandedOut { number } = *call {
+            let body = left.handed.as_ref().and_then(|handed| handed.bodies.get(number as usize));
+            let body = body.map(|entry| entry.bytes(damaged.bytes()));
+            if self.work.handed_out(number, areas).ok() != body {
+                return Err(format!("answered another place than that of {body:?}"));
+            }
+        }
         Ok(())
+    }
+
+    fn check_damaged_figures(&mut self, areas: Areas) -> Result<(), String> {
+        match self.work.figures(areas) {
+            Err(DAMAGED) => Ok(()),
+            told => Err(format!("tells the figures {told:?} of damaged areas")),
+        }
     }
 
     /// An opening takes any areas.
@@ -180,7 +202,7 @@ impl Tally {
         answer: Answer,
     ) -> Result<(), String> {
         let number = super::account::limits_number(limits, areas);
-        if answer.number != number {
+        if answer.number != number || port::cache::validate_config(limits, areas) != number {
             return Err(format!("an opening answered {}, not {number}", answer.number));
         }
         if number != DONE {
@@ -217,6 +239,13 @@ impl Tally {
             println!("  {count:>8}  {areas}, {}: {number}", Call::NAMES[*call as usize]);
         }
     }
+}
+
+/// As the call for the figures tells them.
+fn figures(table: &Table) -> [u64; 6] {
+    let bodies = table.held.iter().map(|record| record.bodies.len() as u64).sum();
+    let handed = table.handed.as_ref().map_or(0, |handed| handed.bodies.len() as u64);
+    [table.held.len() as u64, bodies, table.total, table.cached, table.dropped, handed]
 }
 
 fn need(limits: &Limits) -> Areas {

@@ -5,24 +5,26 @@ mod account;
 mod body;
 mod branch;
 pub mod call;
-#[cfg(feature = "live-cache")]
+#[cfg(feature = "live")]
 pub mod compare;
 pub mod count;
 mod counts;
-#[cfg(feature = "live-cache")]
+#[cfg(feature = "live")]
 pub mod damage;
 mod document;
 mod exhaustive;
 mod generator;
-#[cfg(feature = "live-cache")]
+#[cfg(feature = "live")]
 mod layout;
-#[cfg(feature = "live-cache")]
+#[cfg(feature = "live")]
 mod lent;
-mod limits;
+pub mod limits;
+#[cfg(feature = "live")]
+pub mod memory;
 mod original;
 mod parts;
 pub mod record;
-#[cfg(feature = "live-cache")]
+#[cfg(feature = "live")]
 mod redo;
 mod rows;
 mod run;

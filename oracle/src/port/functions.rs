@@ -2,7 +2,6 @@
 //!
 //! A body or list of no entries comes with a pointer that must not be read.
 
-#[cfg(feature = "live")]
 unsafe extern "C" {
     /// Of the cost, three words are written if the answer is 0, else none.
     pub fn netflow_preflight_v9_fixed(
@@ -31,22 +30,30 @@ unsafe extern "C" {
     ) -> u32;
 }
 
-// A cache lives in words and bytes. Those of a `*const` are not written.
-#[cfg(feature = "live-cache")]
+// A cache lives in words and bytes; those of a `*const` are not written. Each function answers a
+// number; values are written if that is 0, else none. No TTL where `has_ttl` is 0.
 unsafe extern "C" {
-    pub fn live_open(
-        templates: usize,
-        bodies: usize,
-        entry: usize,
-        total: usize,
-        ttl_set: u64,
-        ttl: u64,
+    pub fn netflow_pending_validate_config(
+        words_len: usize,
+        bytes_len: usize,
+        max_pending_flows: usize,
+        max_entries_per_template: usize,
+        max_entry_size_bytes: usize,
+        max_total_bytes: usize,
+    ) -> u32;
+    pub fn netflow_pending_open(
         words: *mut u64,
         words_len: usize,
         bytes: *const u8,
         bytes_len: usize,
-    ) -> u64;
-    pub fn live_offer(
+        max_pending_flows: usize,
+        max_entries_per_template: usize,
+        max_entry_size_bytes: usize,
+        max_total_bytes: usize,
+        has_ttl: u32,
+        ttl: u64,
+    ) -> u32;
+    pub fn netflow_pending_cache(
         words: *mut u64,
         words_len: usize,
         bytes: *mut u8,
@@ -55,41 +62,44 @@ unsafe extern "C" {
         body: *const u8,
         body_len: usize,
         clock: u64,
-    ) -> u64;
-    /// The bodies handed out, or 2^32 and a number.
-    pub fn live_drain(
+    ) -> u32;
+    pub fn netflow_pending_drain(
         words: *mut u64,
         words_len: usize,
         bytes: *const u8,
         bytes_len: usize,
         id: u16,
         clock: u64,
-    ) -> u64;
-    pub fn live_put_back(
+        handed_out: *mut u64,
+    ) -> u32;
+    pub fn netflow_pending_restore_replay_suffix(
         words: *mut u64,
         words_len: usize,
         bytes: *const u8,
         bytes_len: usize,
         id: u16,
-        n: usize,
-    ) -> u64;
-    /// The bodies dropped, or 2^32 and a number.
-    pub fn live_resize(
+        count: usize,
+    ) -> u32;
+    pub fn netflow_pending_resize(
         words: *mut u64,
         words_len: usize,
         bytes: *mut u8,
         bytes_len: usize,
-        templates: usize,
-        bodies: usize,
-        entry: usize,
-        total: usize,
-        ttl_set: u64,
+        max_pending_flows: usize,
+        max_entries_per_template: usize,
+        max_entry_size_bytes: usize,
+        max_total_bytes: usize,
+        has_ttl: u32,
         ttl: u64,
-    ) -> u64;
-    pub fn live_clear(words: *mut u64, words_len: usize, bytes: *const u8, bytes_len: usize)
-    -> u64;
-    /// 1 for yes, 0 for no, or 28.
-    pub fn live_would_accept(
+        dropped: *mut u64,
+    ) -> u32;
+    pub fn netflow_pending_clear(
+        words: *mut u64,
+        words_len: usize,
+        bytes: *const u8,
+        bytes_len: usize,
+    ) -> u32;
+    pub fn netflow_pending_would_accept(
         words: *const u64,
         words_len: usize,
         bytes: *const u8,
@@ -97,12 +107,23 @@ unsafe extern "C" {
         id: u16,
         length: usize,
         clock: u64,
-    ) -> u64;
-    pub fn live_place(
+        accepts: *mut u64,
+    ) -> u32;
+    /// Six figures.
+    pub fn netflow_pending_figures(
+        words: *const u64,
+        words_len: usize,
+        bytes: *const u8,
+        bytes_len: usize,
+        figures: *mut u64,
+    ) -> u32;
+    /// A place and a length.
+    pub fn netflow_pending_place_handed_out(
         words: *const u64,
         words_len: usize,
         bytes: *const u8,
         bytes_len: usize,
         number: usize,
-    ) -> u64;
+        place: *mut u64,
+    ) -> u32;
 }

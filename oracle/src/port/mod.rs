@@ -1,18 +1,13 @@
-//! The ported functions of libnetflow_pending.a and liblive_cache.a, with Rust's types around
-//! them.
+//! The ported functions of libnetflow_pending.a, with Rust's types around them.
 
-#[cfg(feature = "live-cache")]
 pub mod cache;
-#[cfg(feature = "live")]
 pub mod framing;
 mod functions;
 
 /// What an area for answers holds before a call: a word that is not written must keep it.
-#[cfg(feature = "live")]
 pub const UNTOUCHED: [u64; 3] = [0x5EED_0001, 0x5EED_0002, 0x5EED_0003];
 
 /// The words for a person to read, `-` where nothing was written.
-#[cfg(feature = "live")]
 pub fn shown(words: [u64; 3]) -> String {
     let word = |at: usize| match words[at] {
         word if word == UNTOUCHED[at] => "-".to_string(),

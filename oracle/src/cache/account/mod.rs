@@ -83,7 +83,7 @@ impl Account {
 
     /// The account of a cache that holds these and handed out these, when so many offers were
     /// made and nothing was dropped.
-    #[cfg(feature = "live-cache")]
+    #[cfg(feature = "live")]
     pub fn of_areas(
         limits: &Limits,
         areas: Areas,
