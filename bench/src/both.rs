@@ -262,9 +262,20 @@ impl Both {
         (time, times)
     }
 
-    /// The bytes of all bodies moved to the front at once.
+    /// The bytes of bodies that a packing offer moves.
+    pub fn moved(&self) -> usize {
+        let held = self.shape.bodies() - usize::from(self.evicts()) * self.shape.per;
+        held * self.shape.length
+    }
+
+    fn evicts(&self) -> bool {
+        self.shape.call == Call::OfferEvictsBytes
+    }
+
+    /// As many bytes moved at once, by the length of a body towards the front.
     pub fn memmove(&mut self) -> Spent {
-        let (from, to) = (self.shape.gap.max(self.shape.length), self.lent.bytes.len());
+        let (from, moved) = (self.shape.length, self.moved());
+        let to = (from + moved).min(self.lent.bytes.len());
         let bytes = black_box(&mut self.lent.bytes);
         let (time, ()) = time_of(|| bytes.copy_within(from..to, 0));
         (time, 1)

@@ -27,45 +27,105 @@ const GRID: [(usize, usize); 14] = [
 /// The length of each body where it is of no matter.
 pub const LENGTH: usize = 64;
 
-/// A table: the call, with or without a TTL.
-pub const TABLES: [(Call, bool, &str); 17] = [
-    (Call::WouldAccept, false, "would_accept"),
-    (Call::WouldAccept, true, "would_accept, with a TTL"),
-    (Call::Figures, false, "figures"),
-    (Call::PlaceHandedOut, false, "place_handed_out, of the last body"),
-    (Call::OfferHeld, false, "offer to a held id"),
-    (Call::OfferHeld, true, "offer to a held id, with a TTL"),
-    (Call::OfferNew, false, "offer to a new id"),
-    (Call::OfferNew, true, "offer to a new id, with a TTL"),
-    (Call::OfferFull, false, "offer refused with 20"),
-    (Call::OfferEvicts, false, "offer to a new id that evicts a template"),
-    (Call::Drain, false, "drain"),
-    (Call::Drain, true, "drain, with a TTL"),
-    (Call::PutBack, false, "put-back of all that was handed out"),
-    (Call::Resize, false, "resize that changes nothing"),
-    (Call::ResizeHalves, false, "resize to half the templates"),
-    (Call::Clear, false, "clear"),
-    (Call::OfferEvictsBytes, false, "offer that evicts for its bytes and packs"),
+/// A call, with or without a TTL, and the most scalar sums that it is to take: of many templates,
+/// and of one.
+pub struct Table {
+    pub call: Call,
+    pub ttl: bool,
+    pub name: &'static str,
+    most: Option<(f64, f64)>,
+}
+
+const QUERY: Option<(f64, f64)> = Some((1.25, 2.0));
+const OFFER: Option<(f64, f64)> = Some((2.5, 2.5));
+const DRAIN: Option<(f64, f64)> = Some((3.5, 3.5));
+
+const fn table(call: Call, ttl: bool, name: &'static str, most: Option<(f64, f64)>) -> Table {
+    Table { call, ttl, name, most }
+}
+
+pub const TABLES: [Table; 17] = [
+    table(Call::WouldAccept, false, "would_accept", QUERY),
+    table(Call::WouldAccept, true, "would_accept, with a TTL", QUERY),
+    table(Call::Figures, false, "figures", QUERY),
+    table(Call::PlaceHandedOut, false, "place_handed_out, of the last body", QUERY),
+    table(Call::OfferHeld, false, "offer to a held id", OFFER),
+    table(Call::OfferHeld, true, "offer to a held id, with a TTL", OFFER),
+    table(Call::OfferNew, false, "offer to a new id", OFFER),
+    table(Call::OfferNew, true, "offer to a new id, with a TTL", OFFER),
+    table(Call::OfferFull, false, "offer refused with 20", OFFER),
+    table(Call::OfferEvicts, false, "offer to a new id that evicts a template", None),
+    table(Call::Drain, false, "drain", DRAIN),
+    table(Call::Drain, true, "drain, with a TTL", DRAIN),
+    table(Call::PutBack, false, "put-back of all that was handed out", None),
+    table(Call::Resize, false, "resize that changes nothing", None),
+    table(Call::ResizeHalves, false, "resize to half the templates", None),
+    table(Call::Clear, false, "clear", None),
+    table(Call::OfferEvictsBytes, false, "offer that evicts for its bytes and packs", None),
 ];
 
-/// Prints the tables whose name has the word.
-pub fn print(budget: Budget, word: &str) {
-    for (call, ttl, name) in TABLES {
-        if !name.contains(word) {
-            continue;
+impl Table {
+    pub fn shape(&self, templates: usize, bodies: usize) -> Shape {
+        Shape::new(self.call, templates, bodies, self.ttl, LENGTH)
+    }
+
+    /// An eviction of the only template leaves nothing to pack.
+    pub fn has(&self, templates: usize) -> bool {
+        self.call != Call::OfferEvictsBytes || templates > 1
+    }
+}
+
+/// The most scalar sums that a call took, and where.
+#[derive(Clone, Copy, Default)]
+struct Most {
+    ratio: f64,
+    templates: usize,
+    bodies: usize,
+}
+
+impl Most {
+    fn or(self, ratio: f64, shape: &Shape) -> Self {
+        let (templates, bodies) = (shape.templates, shape.bodies());
+        if ratio > self.ratio { Self { ratio, templates, bodies } } else { self }
+    }
+
+    fn shown(&self) -> String {
+        if self.templates == 0 {
+            return "-".to_string();
         }
-        println!("\n### {name}\n");
+        let (templates, bodies) = (grouped(self.templates), grouped(self.bodies));
+        format!("{} ({templates} / {bodies})", ratio(self.ratio))
+    }
+}
+
+/// Prints the tables whose name has the word, and then what each call took at most.
+pub fn print(budget: Budget, word: &str) {
+    let mut summary = Vec::new();
+    for table in TABLES.iter().filter(|table| table.name.contains(word)) {
+        println!("\n### {}\n", table.name);
         println!(
             "| templates | bodies | ours | Rust | ours / Rust | scalar sum | ours / scalar sum \
              | ours / vectorised sum | per body |"
         );
         println!("|---:|---:|---:|---:|---:|---:|---:|---:|---:|");
-        for (templates, bodies) in GRID {
-            if call == Call::OfferEvictsBytes && templates == 1 {
-                continue;
-            }
-            print_row(budget, Shape::new(call, templates, bodies, ttl, LENGTH));
+        let (mut many, mut one) = (Most::default(), Most::default());
+        for (templates, bodies) in GRID.into_iter().filter(|at| table.has(at.0)) {
+            let shape = table.shape(templates, bodies);
+            let sums = print_row(budget, shape);
+            let most = if templates == 1 { &mut one } else { &mut many };
+            *most = most.or(sums, &shape);
         }
+        summary.push((table, many, one));
+    }
+    println!("\n### At most, in scalar sums (templates / bodies)\n");
+    println!("| call | 16 or 1,024 templates | to reach | one template | to reach |");
+    println!("|---|---:|---:|---:|---:|");
+    for (table, many, one) in summary {
+        let (of_many, of_one) = match table.most {
+            Some((many, one)) => (many.to_string(), one.to_string()),
+            None => ("-".to_string(), "-".to_string()),
+        };
+        println!("| {} | {} | {of_many} | {} | {of_one} |", table.name, many.shown(), one.shown());
     }
 }
 
@@ -89,7 +149,8 @@ pub fn print_orders(budget: Budget) {
     }
 }
 
-fn print_row(budget: Budget, shape: Shape) {
+/// Prints a row; gives how many scalar sums the call takes.
+fn print_row(budget: Budget, shape: Shape) -> f64 {
     let mut both = Both::new(shape);
     let taken = interleaved(
         budget,
@@ -111,14 +172,15 @@ fn print_row(budget: Budget, shape: Shape) {
         ratio(ours / vectorised),
         ours / shape.bodies() as f64,
     );
+    ours / scalar
 }
 
 /// Bodies that must all be moved before one is stored, beside one memmove of the same bytes.
 pub fn print_moves(budget: Budget) {
-    println!("\n### offer for which all bodies are packed first\n");
+    println!("\n### Offers for which bodies are packed first\n");
     println!(
-        "| call | templates | bodies | of bytes | bytes moved | ours | offer without | memmove \
-         | ours / memmove | (ours - without) / memmove |"
+        "| packed | templates | bodies | of bytes | bytes moved | ours | plain offer | memmove \
+         | ours / memmove | (ours - plain) / memmove |"
     );
     println!("|---|---:|---:|---:|---:|---:|---:|---:|---:|---:|");
     for call in [Call::OfferPacks, Call::OfferEvictsBytes] {
@@ -140,7 +202,7 @@ pub fn print_moves(budget: Budget) {
 }
 
 fn print_move(budget: Budget, shape: Shape) {
-    let plain = Shape::new(Call::OfferHeld, shape.templates, shape.bodies() - 1, false, 64);
+    let plain = Shape::new(Call::OfferHeld, shape.templates, shape.bodies() - 1, false, LENGTH);
     let mut states = (Both::new(shape), Both::new(plain));
     let taken = interleaved(
         budget,
@@ -149,26 +211,29 @@ fn print_move(budget: Budget, shape: Shape) {
             states.0.memmove()
         }],
     );
-    let [ours, without, memmove] = taken[..] else { unreachable!("three sides") };
+    let [ours, plain, memmove] = taken[..] else { unreachable!("three sides") };
+    let packed = match shape.call {
+        Call::OfferPacks => "all, after a gap",
+        _ => "all others, after an eviction",
+    };
     println!(
-        "| {:?} | {} | {} | {} | {} | {} | {} | {} | {} | {} |",
-        shape.call,
+        "| {packed} | {} | {} | {} | {} | {} | {} | {} | {} | {} |",
         grouped(shape.templates),
         grouped(shape.bodies()),
         grouped(shape.length),
-        grouped(states.0.lent.bytes.len() - shape.gap.max(shape.length)),
+        grouped(states.0.moved()),
         time(ours),
-        time(without),
+        time(plain),
         time(memmove),
         ratio(ours / memmove),
-        ratio((ours - without) / memmove),
+        ratio((ours - plain) / memmove),
     );
 }
 
 /// Makes the calls of the table of this name for a second, with nothing else but what they need.
 pub fn repeat(name: &str, templates: usize, bodies: usize) {
-    for (call, ttl, _) in TABLES.into_iter().filter(|table| table.2 == name) {
-        let mut both = Both::new(Shape::new(call, templates, bodies, ttl, LENGTH));
+    for table in TABLES.iter().filter(|table| table.name == name) {
+        let mut both = Both::new(table.shape(templates, bodies));
         let start = Instant::now();
         while start.elapsed() < Duration::from_secs(1) {
             both.ours();

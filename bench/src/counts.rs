@@ -4,9 +4,9 @@
 //! timed elsewhere is counted then, and callgrind writes a file after each call.
 
 use crate::both::Both;
-use crate::cache_rows::{LENGTH, TABLES};
+use crate::cache_rows::TABLES;
 use crate::figures::{grouped, ratio};
-use crate::shape::{Call, Shape};
+use crate::shape::Shape;
 use std::arch::asm;
 use std::cell::RefCell;
 use std::collections::HashMap;
@@ -60,19 +60,18 @@ pub fn run() {
 /// The calls with a name for each.
 fn cases() -> Vec<(String, Shape)> {
     let mut cases = Vec::new();
-    for (call, ttl, name) in TABLES {
-        for (templates, bodies) in GRID {
-            if call != Call::OfferEvictsBytes || templates > 1 {
-                let shape = Shape::new(call, templates, bodies, ttl, LENGTH);
-                let (templates, bodies) = (grouped(shape.templates), grouped(shape.bodies()));
-                cases.push((format!("{name} | {templates} | {bodies}"), shape));
-            }
+    for table in TABLES {
+        for (templates, bodies) in GRID.into_iter().filter(|at| table.has(at.0)) {
+            let shape = table.shape(templates, bodies);
+            let (templates, bodies) = (grouped(shape.templates), grouped(shape.bodies()));
+            cases.push((format!("{} | {templates} | {bodies}", table.name), shape));
         }
     }
     cases
 }
 
 fn print_table(counts: &HashMap<String, u64>) {
+    println!("\n### Instructions\n");
     println!("| call | templates | bodies | ours | Rust | ours / Rust | scalar sum | per body |");
     println!("|---|---:|---:|---:|---:|---:|---:|---:|");
     for (case, shape) in cases() {

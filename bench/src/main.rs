@@ -18,13 +18,14 @@ use std::time::Duration;
 use timing::Budget;
 
 const USAGE: &str = "\
-usage: bench [quick] preflight
+usage: bench [quick] all
+       bench [quick] preflight
        bench [quick] cache [WORD]    tables whose name has the word
        bench [quick] orders
        bench [quick] moves
-       bench stack                   how deep each call writes into the stack
-       bench counts                  instructions, by valgrind
-       bench repeat NAME TEMPLATES BODIES    one table's call again and again, for a profiler";
+       bench stack
+       bench counts                  by valgrind
+       bench repeat NAME TEMPLATES BODIES";
 
 const QUICK: Budget = Budget { time: Duration::from_millis(50), runs: 10 };
 const FULL: Budget = Budget { time: Duration::from_millis(500), runs: 50 };
@@ -36,34 +37,39 @@ fn main() -> ExitCode {
         ["quick", rest @ ..] => (QUICK, rest),
         all => (FULL, all),
     };
-    if words == ["counted"] {
-        counts::run();
-        return ExitCode::SUCCESS;
-    }
-    match words {
-        ["repeat", name, templates, bodies] => {
-            let (Ok(templates), Ok(bodies)) = (templates.parse(), bodies.parse()) else {
-                eprintln!("{USAGE}");
-                return ExitCode::FAILURE;
-            };
-            cache_rows::repeat(name, templates, bodies);
+    match run(budget, words) {
+        Ok(()) => ExitCode::SUCCESS,
+        Err(message) => {
+            eprintln!("{message}");
+            ExitCode::FAILURE
         }
-        ["stack"] => stack::print(),
-        ["counts"] => {
-            if let Err(message) = counts::print() {
-                eprintln!("{message}");
-                return ExitCode::FAILURE;
-            }
+    }
+}
+
+fn run(budget: Budget, words: &[&str]) -> Result<(), String> {
+    match words {
+        ["all"] => {
+            preflight_rows::print(budget);
+            cache_rows::print(budget, "");
+            cache_rows::print_orders(budget);
+            cache_rows::print_moves(budget);
+            stack::print();
+            counts::print()?;
         }
         ["preflight"] => preflight_rows::print(budget),
         ["cache"] => cache_rows::print(budget, ""),
         ["cache", word] => cache_rows::print(budget, word),
         ["orders"] => cache_rows::print_orders(budget),
         ["moves"] => cache_rows::print_moves(budget),
-        _ => {
-            eprintln!("{USAGE}");
-            return ExitCode::FAILURE;
+        ["stack"] => stack::print(),
+        ["counts"] => counts::print()?,
+        // What `counts` has valgrind run.
+        ["counted"] => counts::run(),
+        ["repeat", name, templates, bodies] => {
+            let number = |text: &str| text.parse().map_err(|_| USAGE.to_string());
+            cache_rows::repeat(name, number(templates)?, number(bodies)?);
         }
+        _ => return Err(USAGE.to_string()),
     }
-    ExitCode::SUCCESS
+    Ok(())
 }

@@ -1,119 +1,15 @@
 //! The proved library's functions, each with Rust's types around it and nothing else.
 
+use oracle::functions::{
+    netflow_pending_cache, netflow_pending_clear, netflow_pending_drain, netflow_pending_figures,
+    netflow_pending_open, netflow_pending_place_handed_out, netflow_pending_resize,
+    netflow_pending_restore_replay_suffix, netflow_pending_would_accept,
+    netflow_preflight_ipfix_fixed, netflow_preflight_ipfix_variable, netflow_preflight_v9_fixed,
+};
 use oracle::original::Limits;
 
-/// A width list and a body; what is written and the number.
-type Preflight = unsafe extern "C" fn(*const u8, usize, *const u16, usize, usize, *mut u64) -> u32;
-
-unsafe extern "C" {
-    fn netflow_preflight_v9_fixed(
-        body: *const u8,
-        body_len: usize,
-        widths: *const u16,
-        widths_len: usize,
-        max_records: usize,
-        cost: *mut u64,
-    ) -> u32;
-    fn netflow_preflight_ipfix_fixed(
-        body: *const u8,
-        body_len: usize,
-        widths: *const u16,
-        widths_len: usize,
-        max_records: usize,
-        cost: *mut u64,
-    ) -> u32;
-    fn netflow_preflight_ipfix_variable(
-        body: *const u8,
-        body_len: usize,
-        widths: *const u16,
-        widths_len: usize,
-        max_records: usize,
-        cost: *mut u64,
-    ) -> u32;
-    fn netflow_pending_open(
-        words: *mut u64,
-        words_len: usize,
-        bytes: *const u8,
-        bytes_len: usize,
-        max_pending_flows: usize,
-        max_entries_per_template: usize,
-        max_entry_size_bytes: usize,
-        max_total_bytes: usize,
-        has_ttl: u32,
-        ttl: u64,
-    ) -> u32;
-    fn netflow_pending_cache(
-        words: *mut u64,
-        words_len: usize,
-        bytes: *mut u8,
-        bytes_len: usize,
-        id: u16,
-        body: *const u8,
-        body_len: usize,
-        clock: u64,
-    ) -> u32;
-    fn netflow_pending_drain(
-        words: *mut u64,
-        words_len: usize,
-        bytes: *const u8,
-        bytes_len: usize,
-        id: u16,
-        clock: u64,
-        handed_out: *mut u64,
-    ) -> u32;
-    fn netflow_pending_restore_replay_suffix(
-        words: *mut u64,
-        words_len: usize,
-        bytes: *const u8,
-        bytes_len: usize,
-        id: u16,
-        count: usize,
-    ) -> u32;
-    fn netflow_pending_resize(
-        words: *mut u64,
-        words_len: usize,
-        bytes: *mut u8,
-        bytes_len: usize,
-        max_pending_flows: usize,
-        max_entries_per_template: usize,
-        max_entry_size_bytes: usize,
-        max_total_bytes: usize,
-        has_ttl: u32,
-        ttl: u64,
-        dropped: *mut u64,
-    ) -> u32;
-    fn netflow_pending_clear(
-        words: *mut u64,
-        words_len: usize,
-        bytes: *const u8,
-        bytes_len: usize,
-    ) -> u32;
-    fn netflow_pending_would_accept(
-        words: *const u64,
-        words_len: usize,
-        bytes: *const u8,
-        bytes_len: usize,
-        id: u16,
-        length: usize,
-        clock: u64,
-        accepts: *mut u64,
-    ) -> u32;
-    fn netflow_pending_figures(
-        words: *const u64,
-        words_len: usize,
-        bytes: *const u8,
-        bytes_len: usize,
-        figures: *mut u64,
-    ) -> u32;
-    fn netflow_pending_place_handed_out(
-        words: *const u64,
-        words_len: usize,
-        bytes: *const u8,
-        bytes_len: usize,
-        number: usize,
-        place: *mut u64,
-    ) -> u32;
-}
+/// Takes a body, widths and a record limit, and writes three words.
+type Preflight = unsafe extern "C" fn(*const u8, usize, *const u16, usize, u64, *mut u64) -> u32;
 
 // SAFETY of all calls below: every slice lives through the call and comes with its length, and
 // what is written does not overlap anything else.
@@ -122,7 +18,7 @@ fn preflight(function: Preflight, body: &[u8], widths: &[u16], records: usize) -
     let mut cost = [0; 3];
     let number = unsafe {
         let (body, body_len) = (body.as_ptr(), body.len());
-        function(body, body_len, widths.as_ptr(), widths.len(), records, cost.as_mut_ptr())
+        function(body, body_len, widths.as_ptr(), widths.len(), records as u64, cost.as_mut_ptr())
     };
     (number, cost)
 }

@@ -1,10 +1,9 @@
 //! How deep a call writes into the stack: it runs on a stack of its own, full of a pattern.
 
 use crate::both::Both;
-use crate::cache_rows::{LENGTH, TABLES};
+use crate::cache_rows::TABLES;
 use crate::figures::grouped;
 use crate::port;
-use crate::shape::Shape;
 use std::arch::asm;
 use std::hint::black_box;
 
@@ -15,13 +14,14 @@ const PATTERN: u8 = 0xA5;
 const ALIGNED: usize = 16;
 
 pub fn print() {
+    println!("\n### Stack\n");
     println!("| call | bytes of stack |");
     println!("|---|---:|");
     println!("| none (the measuring itself) | {} |", grouped(depth_of(&mut || ())));
-    for (call, ttl, name) in TABLES {
-        let mut both = Both::new(Shape::new(call, 16, 256, ttl, LENGTH));
+    for table in TABLES {
+        let mut both = Both::new(table.shape(16, 256));
         let mut call = || _ = both.ours();
-        println!("| {name} | {} |", grouped(depth_of(&mut call)));
+        println!("| {} | {} |", table.name, grouped(depth_of(&mut call)));
     }
     let body = vec![1; 1_500];
     let widths = [65_535, 2];

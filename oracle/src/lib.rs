@@ -1,8 +1,12 @@
-//! The original Rust text for another package to call, see `original`. The program of this
-//! package (main.rs) has the same modules, and more beside them.
+//! The original Rust text for another package to call, see `original`, and with the feature `live`
+//! the names of the proved functions. The program of this package (main.rs) has the same modules,
+//! and more beside them.
 
 mod checks;
 mod clock;
+#[cfg(feature = "live")]
+#[path = "port/functions.rs"]
+pub mod functions;
 pub mod original;
 mod template_store;
 mod variable_versions;
