@@ -6,6 +6,7 @@
 use crate::both::Both;
 use crate::cache_rows::TABLES;
 use crate::figures::{grouped, ratio};
+use crate::preflight_rows;
 use crate::shape::Shape;
 use std::arch::asm;
 use std::cell::RefCell;
@@ -42,6 +43,14 @@ pub fn print() -> Result<(), String> {
 
 /// Each call once on each side, under valgrind.
 pub fn run() {
+    for (case, _, preflight) in preflight_rows::counted() {
+        for (side, is_ours) in [("ours", true), ("rust", false)] {
+            preflight(is_ours);
+            count_as(format!("{case} | {side}"));
+            preflight(is_ours);
+            count_as(String::new());
+        }
+    }
     for (case, shape) in cases() {
         let mut both = Both::new(shape);
         // Each once uncounted: a first call of a function of the C library looks it up.
@@ -71,7 +80,22 @@ fn cases() -> Vec<(String, Shape)> {
 }
 
 fn print_table(counts: &HashMap<String, u64>) {
-    println!("\n### Instructions\n");
+    println!("\n### Instructions of a preflight of 1,500 bytes or a little less\n");
+    println!("| reading | fields | values | ours | Rust | ours / Rust | ours, per value |");
+    println!("|---|---|---:|---:|---:|---:|---:|");
+    for (case, values, _) in preflight_rows::counted() {
+        let count = |side: &str| counts.get(&format!("{case} | {side}")).copied().unwrap_or(0);
+        let (ours, rust) = (count("ours"), count("rust"));
+        println!(
+            "| {case} | {} | {} | {} | {} | {:.1} |",
+            grouped(values),
+            grouped(ours as usize),
+            grouped(rust as usize),
+            ratio(ours as f64 / rust as f64),
+            ours as f64 / values as f64,
+        );
+    }
+    println!("\n### Instructions of the cache's calls\n");
     println!("| call | templates | bodies | ours | Rust | ours / Rust | scalar sum | per body |");
     println!("|---|---:|---:|---:|---:|---:|---:|---:|");
     for (case, shape) in cases() {

@@ -13,13 +13,15 @@ mod stack;
 mod sums;
 mod timing;
 
+use std::io;
 use std::process::ExitCode;
 use std::time::Duration;
 use timing::Budget;
 
 const USAGE: &str = "\
 usage: bench [quick] all
-       bench [quick] preflight
+       bench [quick] preflight [plain]
+       bench least                   of several plain preflights on standard input
        bench [quick] cache [WORD]    tables whose name has the word
        bench [quick] orders
        bench [quick] moves
@@ -57,6 +59,11 @@ fn run(budget: Budget, words: &[&str]) -> Result<(), String> {
             counts::print()?;
         }
         ["preflight"] => preflight_rows::print(budget),
+        ["preflight", "plain"] => preflight_rows::print_plain(budget),
+        ["least"] => {
+            let input = io::read_to_string(io::stdin()).map_err(|error| error.to_string())?;
+            preflight_rows::print_least(&input)?;
+        }
         ["cache"] => cache_rows::print(budget, ""),
         ["cache", word] => cache_rows::print(budget, word),
         ["orders"] => cache_rows::print_orders(budget),

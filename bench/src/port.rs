@@ -9,33 +9,30 @@ use oracle::functions::{
 use oracle::original::Limits;
 
 /// Takes a body, widths and a record limit, and writes three words.
-type Preflight = unsafe extern "C" fn(*const u8, usize, *const u16, usize, u64, *mut u64) -> u32;
+pub type Preflight =
+    unsafe extern "C" fn(*const u8, usize, *const u16, usize, u64, *mut u64) -> u32;
+
+pub const V9_FIXED: Preflight = netflow_preflight_v9_fixed;
+pub const IPFIX_FIXED: Preflight = netflow_preflight_ipfix_fixed;
+pub const IPFIX_VARIABLE: Preflight = netflow_preflight_ipfix_variable;
 
 // SAFETY of all calls below: every slice lives through the call and comes with its length, and
 // what is written does not overlap anything else.
 
-fn preflight(function: Preflight, body: &[u8], widths: &[u16], records: usize) -> (u32, [u64; 3]) {
+#[inline(always)]
+pub fn preflight(
+    function: Preflight,
+    body: &[u8],
+    widths: &[u16],
+    limit: usize,
+) -> (u32, [u64; 3]) {
     let mut cost = [0; 3];
     let number = unsafe {
         let (body, body_len) = (body.as_ptr(), body.len());
-        function(body, body_len, widths.as_ptr(), widths.len(), records as u64, cost.as_mut_ptr())
+        let (widths, widths_len) = (widths.as_ptr(), widths.len());
+        function(body, body_len, widths, widths_len, limit as u64, cost.as_mut_ptr())
     };
     (number, cost)
-}
-
-#[inline]
-pub fn preflight_v9_fixed(body: &[u8], widths: &[u16], records: usize) -> (u32, [u64; 3]) {
-    preflight(netflow_preflight_v9_fixed, body, widths, records)
-}
-
-#[inline]
-pub fn preflight_ipfix_fixed(body: &[u8], widths: &[u16], records: usize) -> (u32, [u64; 3]) {
-    preflight(netflow_preflight_ipfix_fixed, body, widths, records)
-}
-
-#[inline]
-pub fn preflight_ipfix_variable(body: &[u8], widths: &[u16], records: usize) -> (u32, [u64; 3]) {
-    preflight(netflow_preflight_ipfix_variable, body, widths, records)
 }
 
 fn ttl_words(limits: Limits) -> (u32, u64) {

@@ -24,11 +24,11 @@ pub fn print() {
         println!("| {} | {} |", table.name, grouped(depth_of(&mut call)));
     }
     let body = vec![1; 1_500];
-    let widths = [65_535, 2];
-    let mut scan = || _ = black_box(port::preflight_ipfix_variable(&body, &widths, 65_535));
-    println!("| preflight, IPFIX variable | {} |", grouped(depth_of(&mut scan)));
-    let mut divide = || _ = black_box(port::preflight_v9_fixed(&body, &[4, 4], 65_535));
-    println!("| preflight, v9 fixed | {} |", grouped(depth_of(&mut divide)));
+    for (name, function) in [("IPFIX variable", port::IPFIX_VARIABLE), ("v9 fixed", port::V9_FIXED)]
+    {
+        let mut call = || _ = black_box(port::preflight(function, &body, &[65_535, 2], 65_535));
+        println!("| preflight, {name} | {} |", grouped(depth_of(&mut call)));
+    }
 }
 
 type Run<'a> = &'a mut dyn FnMut();
