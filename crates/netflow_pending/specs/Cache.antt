@@ -68,7 +68,8 @@ pub record Exports {A : Type 0} (answer : Answer) (Promise : A → Type 0) (r : 
   pub promise : Promise called-answer
 
 -- the same of a call with values
-pub record ExportsValues {A : Type 0} (answer : Answer) (Promise : A → Type 0) (r : ℕ) (vs vs′ : List ℕ) : Type 0 where
+pub record ExportsValues {A : Type 0} (answer : Answer) (Promise : A → Type 0) (r : ℕ) (vs vs′ : List ℕ) :
+    Type 0 where
   pub exported : Exported answer r vs vs′
   pub called-answer : A
   pub promise : Promise called-answer

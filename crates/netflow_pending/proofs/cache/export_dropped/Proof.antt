@@ -19,7 +19,9 @@ returns : tie.Need-returns
 returns c = search needs
 
 returns-2 : tie.Need-returns-2
-returns-2 c = rw (c .before .before .answer2 .given .1) (record { returned = c .config-number .ensures; written = refl })
+returns-2 c =
+    rw (c .before .before .answer2 .given .1)
+    (record { returned = c .config-number .ensures; written = refl })
 
 returns-3 : tie.Need-returns-3
 returns-3 c = rw (c .enum-told .given .1) (record { returned = refl; written = refl })

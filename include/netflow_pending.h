@@ -1,0 +1,184 @@
+/*
+ * The proved pending flow cache and output preflight: the functions of libnetflow_pending.a.
+ *
+ * Every function returns a number of enum netflow_number: 0, or why it was refused. Values are
+ * written where the number is 0; beside any other number they stay as they were.
+ *
+ * No pointer may be null, also where the length beside it is 0; no bytes are read then. Memory that
+ * is not const overlaps no other memory of the same call. Nothing is allocated, nothing is kept
+ * between calls, and no function fails to return.
+ *
+ * size_t has 64 bits: the archive is for x86-64.
+ */
+#ifndef NETFLOW_PENDING_H
+#define NETFLOW_PENDING_H
+
+#include <stddef.h>
+#include <stdint.h>
+
+#ifdef __cplusplus
+extern "C" {
+#endif
+
+/* ---- numbers ------------------------------------------------------------------------------- */
+
+enum netflow_number {
+    NETFLOW_DONE = 0,
+
+    /* from the input */
+    NETFLOW_NO_TEMPLATES = 1,       /* max_pending_flows is 0 */
+    NETFLOW_NO_ENTRIES = 2,         /* max_entries_per_template is 0 */
+    NETFLOW_ENTRY_SIZE = 3,         /* max_entry_size_bytes is 0 or above 65,531 */
+    NETFLOW_TOTAL_BYTES = 4,        /* max_total_bytes is 0 or below max_entry_size_bytes */
+    NETFLOW_AREAS = 5,              /* limits above what these areas, or any areas, hold */
+    NETFLOW_TOO_LONG = 6,           /* a body longer than max_entry_size_bytes */
+    NETFLOW_INVALID = 7,            /* no valid framing, or a decoder that differs from the preflight */
+    NETFLOW_NEVER_FITS = 8,         /* a cost above the whole budget */
+    NETFLOW_ZERO_RECORDS = 9,       /* a record limit of 0 */
+    NETFLOW_ZERO_FIELD_VALUES = 10, /* a limit of 0 field values */
+    NETFLOW_ZERO_PAYLOAD_BYTES = 11, /* a limit of 0 payload bytes */
+    NETFLOW_OVERSIZED = 12,         /* a body over 65,531 bytes, or over 65,535 widths */
+
+    /* from the state */
+    NETFLOW_TEMPLATE_FULL = 20,     /* the template holds max_entries_per_template bodies */
+    NETFLOW_OVER_TOTAL = 21,        /* no template left to evict: no cache comes to it */
+    NETFLOW_TEMPORARILY_DOES_NOT_FIT = 22, /* a cost above what remains of the budget */
+    NETFLOW_VALUES_EXCEEDED = 23,   /* a reservation past the limit of field values */
+    NETFLOW_PAYLOAD_EXCEEDED = 24,  /* a reservation past the limit of payload bytes */
+    NETFLOW_NO_CHANCE = 25,         /* no chance of a put-back, or more bodies than were handed out */
+    NETFLOW_ABOVE_USE = 26,         /* a rollback to more than is in use */
+    NETFLOW_NOT_HANDED_OUT = 27,    /* no handed-out body with this number */
+    NETFLOW_DAMAGED = 28            /* the areas hold no well-formed cache */
+};
+
+/* ---- the preflight of a body --------------------------------------------------------------- */
+
+/*
+ * A body is what follows the 4-byte header of a data set; widths are those of its template's fields.
+ * 0 writes field values, payload bytes and the length of the remainder. Refused: 9, 12, 7.
+ */
+
+/* NetFlow v9: a remainder of up to 3 bytes that is shorter than a record. */
+uint32_t netflow_preflight_v9_fixed(const uint8_t *body, size_t body_len, const uint16_t *widths,
+                                    size_t widths_len, size_t max_records, uint64_t cost[3]);
+
+/* IPFIX without fields of variable length: a remainder that is shorter than a record. */
+uint32_t netflow_preflight_ipfix_fixed(const uint8_t *body, size_t body_len,
+                                       const uint16_t *widths, size_t widths_len,
+                                       size_t max_records, uint64_t cost[3]);
+
+/* IPFIX in which a field of width 65,535 begins with its own length. */
+uint32_t netflow_preflight_ipfix_variable(const uint8_t *body, size_t body_len,
+                                          const uint16_t *widths, size_t widths_len,
+                                          size_t max_records, uint64_t cost[3]);
+
+/* ---- the pending flow cache ---------------------------------------------------------------- */
+
+/*
+ * A cache lives in two areas that the caller lends to each call: words and bytes, always the same
+ * ones, which nobody else writes in between. docs/LAYOUT.md says what stands in them.
+ *
+ * A clock reading is a count of nanoseconds. A body is expired where a TTL is set and the reading
+ * is at least the TTL above that of its offer.
+ *
+ * Every call but opening answers 28 first, and changes nothing, where the areas hold no well-formed
+ * cache.
+ */
+
+/* the highest limits that there are */
+#define NETFLOW_PENDING_MAX_TEMPLATES 1024
+#define NETFLOW_PENDING_MAX_BODIES 262144 /* max_pending_flows x max_entries_per_template */
+#define NETFLOW_PENDING_MAX_ENTRY_SIZE 65531
+#define NETFLOW_PENDING_MAX_TOTAL_BYTES 67108864
+
+/* the words and bytes that a cache with these limits needs */
+#define NETFLOW_PENDING_WORDS(max_pending_flows, max_entries_per_template)                         \
+    ((size_t)64 + (size_t)8 * (max_pending_flows) +                                                \
+     (size_t)4 * ((size_t)(max_pending_flows) * (size_t)(max_entries_per_template)))
+#define NETFLOW_PENDING_BYTES(max_total_bytes) ((size_t)(max_total_bytes))
+
+/* Whether a cache can be opened with these limits in areas of these lengths. Refused: 1 to 5. */
+uint32_t netflow_pending_validate_config(size_t words_len, size_t bytes_len,
+                                         size_t max_pending_flows, size_t max_entries_per_template,
+                                         size_t max_entry_size_bytes, size_t max_total_bytes);
+
+/*
+ * Opens an empty cache in areas with any content. No TTL where has_ttl is 0; else bodies expire at
+ * an age of ttl nanoseconds. Refused, with nothing changed: 1 to 5.
+ */
+uint32_t netflow_pending_open(uint64_t *words, size_t words_len, const uint8_t *bytes,
+                              size_t bytes_len, size_t max_pending_flows,
+                              size_t max_entries_per_template, size_t max_entry_size_bytes,
+                              size_t max_total_bytes, uint32_t has_ttl, uint64_t ttl);
+
+/*
+ * Offers a body, which is copied into the byte area. Other bodies may go: the least recent
+ * templates where there is no room, and expired bodies; each adds one to pending_dropped. Refused:
+ * 28; 6 and 20, which add one to pending_dropped too.
+ */
+uint32_t netflow_pending_cache(uint64_t *words, size_t words_len, uint8_t *bytes, size_t bytes_len,
+                               uint16_t id, const uint8_t *body, size_t body_len, uint64_t clock);
+
+/*
+ * Removes an id, drops its expired bodies and hands out the others, oldest first: 0 writes how many
+ * (0 for an id that is not held). They can be read, by netflow_pending_place_handed_out, and put
+ * back until the next offer, drain, resize or clear, or a put-back of them; such a call that is
+ * refused with another number than 20 changes nothing of that. Refused: 28.
+ */
+uint32_t netflow_pending_drain(uint64_t *words, size_t words_len, const uint8_t *bytes,
+                               size_t bytes_len, uint16_t id, uint64_t clock,
+                               uint64_t *handed_out);
+
+/*
+ * Puts the last `count` handed-out bodies back as the newest template; the counters stay. 0 bodies
+ * succeed for any id and change nothing. Refused, with nothing changed: 28, 25.
+ */
+uint32_t netflow_pending_restore_replay_suffix(uint64_t *words, size_t words_len,
+                                               const uint8_t *bytes, size_t bytes_len, uint16_t id,
+                                               size_t count);
+
+/*
+ * Changes the limits and drops the bodies that they leave no room for: 0 writes how many, which
+ * pending_dropped rises by. The areas must be long enough for both limits. Refused, with nothing
+ * changed: 28, 1 to 5.
+ */
+uint32_t netflow_pending_resize(uint64_t *words, size_t words_len, uint8_t *bytes,
+                                size_t bytes_len, size_t max_pending_flows,
+                                size_t max_entries_per_template, size_t max_entry_size_bytes,
+                                size_t max_total_bytes, uint32_t has_ttl, uint64_t ttl,
+                                uint64_t *dropped);
+
+/* Empties the cache and leaves its counters. Refused: 28. */
+uint32_t netflow_pending_clear(uint64_t *words, size_t words_len, const uint8_t *bytes,
+                               size_t bytes_len);
+
+/*
+ * 0 writes 1 where an offer of this id and length at this clock reading is accepted; it writes 0
+ * where such an offer may be accepted or refused. Changes nothing. Refused: 28.
+ */
+uint32_t netflow_pending_would_accept(const uint64_t *words, size_t words_len,
+                                      const uint8_t *bytes, size_t bytes_len, uint16_t id,
+                                      size_t length, uint64_t clock, uint64_t *accepts);
+
+/*
+ * 0 writes templates, bodies and bytes held, pending_cached, pending_dropped, and the bodies that
+ * may still be put back. Changes nothing. Refused: 28.
+ */
+uint32_t netflow_pending_figures(const uint64_t *words, size_t words_len, const uint8_t *bytes,
+                                 size_t bytes_len, uint64_t figures[6]);
+
+/*
+ * 0 writes where a handed-out body, numbered from 0, begins in the byte area, and its length.
+ * Changes nothing. Refused: 28, 27.
+ */
+uint32_t netflow_pending_place_handed_out(const uint64_t *words, size_t words_len,
+                                          const uint8_t *bytes, size_t bytes_len, size_t number,
+                                          uint64_t place[2]);
+
+/* ---- the decoded-output budget ------------------------------------------------------------- */
+
+#ifdef __cplusplus
+}
+#endif
+
+#endif
