@@ -18,6 +18,9 @@ const LOOKED_AT: usize = 16_384;
 const OUR_QUERIES: usize = 32;
 const RUST_QUERIES: usize = 64;
 
+const HEADER_WORDS: usize = 64;
+const ENTRY_WORDS: usize = 4;
+
 pub struct Both {
     pub shape: Shape,
     pub lent: Lent,
@@ -262,22 +265,35 @@ impl Both {
         (time, times)
     }
 
-    /// The bytes of bodies that a packing offer moves.
+    /// The bytes that an offer moves which evicts or packs: of bodies, or of entries where only
+    /// these move.
     pub fn moved(&self) -> usize {
-        let held = self.shape.bodies() - usize::from(self.evicts()) * self.shape.per;
-        held * self.shape.length
+        let Shape { call, per, length, .. } = self.shape;
+        match call {
+            Call::OfferPacks => self.shape.bodies() * length,
+            Call::OfferEvictsBytes => (self.shape.bodies() - per) * length,
+            _ => (self.shape.bodies() - per) * ENTRY_WORDS * 8,
+        }
     }
 
-    fn evicts(&self) -> bool {
-        self.shape.call == Call::OfferEvictsBytes
-    }
-
-    /// As many bytes moved at once, by the length of a body towards the front.
+    /// As many bytes of the same area moved at once towards the front: by the length of a body, or
+    /// by an entry.
     pub fn memmove(&mut self) -> Spent {
-        let (from, moved) = (self.shape.length, self.moved());
-        let to = (from + moved).min(self.lent.bytes.len());
-        let bytes = black_box(&mut self.lent.bytes);
-        let (time, ()) = time_of(|| bytes.copy_within(from..to, 0));
+        let moved = self.moved();
+        let time = match self.shape.call {
+            Call::OfferPacks | Call::OfferEvictsBytes => {
+                let from = self.shape.length;
+                let to = (from + moved).min(self.lent.bytes.len());
+                let bytes = black_box(&mut self.lent.bytes);
+                time_of(|| bytes.copy_within(from..to, 0)).0
+            }
+            _ => {
+                self.lent.restore();
+                let (from, to) = (HEADER_WORDS + ENTRY_WORDS, HEADER_WORDS);
+                let words = black_box(&mut self.lent.words);
+                time_of(|| words.copy_within(from..from + moved / 8, to)).0
+            }
+        };
         (time, 1)
     }
 }

@@ -175,34 +175,41 @@ fn print_row(budget: Budget, shape: Shape) -> f64 {
     ours / scalar
 }
 
-/// Bodies that must all be moved before one is stored, beside one memmove of the same bytes.
+/// Templates, bodies and their length: large bodies, small ones, and many.
+const MOVES: [(usize, usize, usize); 10] = [
+    (16, 1_008, 65_531),
+    (1_024, 1_024, 65_000),
+    (16, 44_000, 1_500),
+    (1_024, 43_008, 1_500),
+    (16, 65_536, 512),
+    (16, 65_536, 64),
+    (16, 262_144, 128),
+    (16, 4_096, 64),
+    (16, 256, 1_500),
+    (16, 16, 1_500),
+];
+
+/// Offers that move what others left, beside one memmove of the same bytes.
 pub fn print_moves(budget: Budget) {
-    println!("\n### Offers for which bodies are packed first\n");
+    println!("\n### Offers that move bodies or entries\n");
     println!(
-        "| packed | templates | bodies | of bytes | bytes moved | ours | plain offer | memmove \
+        "| moved | templates | bodies | of bytes | bytes moved | ours | plain offer | memmove \
          | ours / memmove | (ours - plain) / memmove |"
     );
     println!("|---|---:|---:|---:|---:|---:|---:|---:|---:|---:|");
     for call in [Call::OfferPacks, Call::OfferEvictsBytes] {
-        for (templates, bodies, length) in [
-            (16, 1_008, 65_531),
-            (1_024, 1_024, 65_000),
-            (16, 44_000, 1_500),
-            (1_024, 43_008, 1_500),
-            (16, 65_536, 512),
-            (16, 65_536, 64),
-            (16, 262_144, 128),
-            (16, 4_096, 64),
-            (16, 256, 1_500),
-            (16, 16, 1_500),
-        ] {
+        for (templates, bodies, length) in MOVES {
             print_move(budget, Shape::new(call, templates, bodies, false, length));
         }
+    }
+    for (templates, bodies) in GRID.into_iter().filter(|at| at.0 > 1) {
+        print_move(budget, Shape::new(Call::OfferEvicts, templates, bodies, false, LENGTH));
     }
 }
 
 fn print_move(budget: Budget, shape: Shape) {
-    let plain = Shape::new(Call::OfferHeld, shape.templates, shape.bodies() - 1, false, LENGTH);
+    let as_many = shape.templates * shape.per;
+    let plain = Shape::new(Call::OfferHeld, shape.templates, as_many, false, LENGTH);
     let mut states = (Both::new(shape), Both::new(plain));
     let taken = interleaved(
         budget,
@@ -212,12 +219,13 @@ fn print_move(budget: Budget, shape: Shape) {
         }],
     );
     let [ours, plain, memmove] = taken[..] else { unreachable!("three sides") };
-    let packed = match shape.call {
-        Call::OfferPacks => "all, after a gap",
-        _ => "all others, after an eviction",
+    let moved = match shape.call {
+        Call::OfferPacks => "all bodies, to close a gap",
+        Call::OfferEvictsBytes => "all bodies but those evicted",
+        _ => "entries of bodies not evicted",
     };
     println!(
-        "| {packed} | {} | {} | {} | {} | {} | {} | {} | {} | {} |",
+        "| {moved} | {} | {} | {} | {} | {} | {} | {} | {} | {} |",
         grouped(shape.templates),
         grouped(shape.bodies()),
         grouped(shape.length),
