@@ -1,5 +1,5 @@
-//! The original's debug assertions, which are made in all builds here. A test can leave them out
-//! to see what the original does in a build without them.
+//! The original's debug assertions, which are made in all builds of this package. A test can leave
+//! them out to see what the original does in a build without them.
 
 use std::cell::Cell;
 
@@ -8,7 +8,7 @@ thread_local! {
 }
 
 pub fn made() -> bool {
-    MADE.get()
+    cfg!(debug_assertions) && MADE.get()
 }
 
 #[cfg(test)]

@@ -2,7 +2,7 @@
 
 pub mod cache;
 pub mod framing;
-mod functions;
+pub mod functions;
 
 /// What an area for answers holds before a call: a word that is not written must keep it.
 pub const UNTOUCHED: [u64; 3] = [0x5EED_0001, 0x5EED_0002, 0x5EED_0003];

@@ -10,6 +10,8 @@ macro_rules! debug_assert {
     };
 }
 
+// Nothing names it where debug assertions are off.
+#[allow(unused_macros)]
 macro_rules! debug_assert_eq {
     ($($argument:tt)*) => {
         if crate::checks::made() {

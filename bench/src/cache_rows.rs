@@ -1,0 +1,250 @@
+//! The tables of the cache's calls.
+
+use crate::both::Both;
+use crate::figures::{grouped, ratio, time};
+use crate::shape::{Call, Order, Shape};
+use crate::timing::{Budget, interleaved};
+use std::time::{Duration, Instant};
+
+/// Templates and bodies: a few templates, many, one, and one body each.
+const GRID: [(usize, usize); 14] = [
+    (16, 16),
+    (16, 256),
+    (16, 4_096),
+    (16, 65_536),
+    (16, 262_144),
+    (1_024, 1_024),
+    (1_024, 4_096),
+    (1_024, 65_536),
+    (1_024, 262_144),
+    (1, 16),
+    (1, 256),
+    (1, 4_096),
+    (1, 65_536),
+    (1, 262_144),
+];
+
+/// The length of each body where it is of no matter.
+pub const LENGTH: usize = 64;
+
+/// A call, with or without a TTL, and the most scalar sums that it is to take: of many templates,
+/// and of one.
+pub struct Table {
+    pub call: Call,
+    pub ttl: bool,
+    pub name: &'static str,
+    most: Option<(f64, f64)>,
+}
+
+const QUERY: Option<(f64, f64)> = Some((1.25, 2.0));
+const OFFER: Option<(f64, f64)> = Some((2.5, 2.5));
+const DRAIN: Option<(f64, f64)> = Some((3.5, 3.5));
+
+const fn table(call: Call, ttl: bool, name: &'static str, most: Option<(f64, f64)>) -> Table {
+    Table { call, ttl, name, most }
+}
+
+pub const TABLES: [Table; 17] = [
+    table(Call::WouldAccept, false, "would_accept", QUERY),
+    table(Call::WouldAccept, true, "would_accept, with a TTL", QUERY),
+    table(Call::Figures, false, "figures", QUERY),
+    table(Call::PlaceHandedOut, false, "place_handed_out, of the last body", QUERY),
+    table(Call::OfferHeld, false, "offer to a held id", OFFER),
+    table(Call::OfferHeld, true, "offer to a held id, with a TTL", OFFER),
+    table(Call::OfferNew, false, "offer to a new id", OFFER),
+    table(Call::OfferNew, true, "offer to a new id, with a TTL", OFFER),
+    table(Call::OfferFull, false, "offer refused with 20", OFFER),
+    table(Call::OfferEvicts, false, "offer to a new id that evicts a template", None),
+    table(Call::Drain, false, "drain", DRAIN),
+    table(Call::Drain, true, "drain, with a TTL", DRAIN),
+    table(Call::PutBack, false, "put-back of all that was handed out", None),
+    table(Call::Resize, false, "resize that changes nothing", None),
+    table(Call::ResizeHalves, false, "resize to half the templates", None),
+    table(Call::Clear, false, "clear", None),
+    table(Call::OfferEvictsBytes, false, "offer that evicts for its bytes and packs", None),
+];
+
+impl Table {
+    pub fn shape(&self, templates: usize, bodies: usize) -> Shape {
+        Shape::new(self.call, templates, bodies, self.ttl, LENGTH)
+    }
+
+    /// An eviction of the only template leaves nothing to pack.
+    pub fn has(&self, templates: usize) -> bool {
+        self.call != Call::OfferEvictsBytes || templates > 1
+    }
+}
+
+/// The most scalar sums that a call took, and where.
+#[derive(Clone, Copy, Default)]
+struct Most {
+    ratio: f64,
+    templates: usize,
+    bodies: usize,
+}
+
+impl Most {
+    fn or(self, ratio: f64, shape: &Shape) -> Self {
+        let (templates, bodies) = (shape.templates, shape.bodies());
+        if ratio > self.ratio { Self { ratio, templates, bodies } } else { self }
+    }
+
+    fn shown(&self) -> String {
+        if self.templates == 0 {
+            return "-".to_string();
+        }
+        let (templates, bodies) = (grouped(self.templates), grouped(self.bodies));
+        format!("{} ({templates} / {bodies})", ratio(self.ratio))
+    }
+}
+
+/// Prints the tables whose name has the word, and then what each call took at most.
+pub fn print(budget: Budget, word: &str) {
+    let mut summary = Vec::new();
+    for table in TABLES.iter().filter(|table| table.name.contains(word)) {
+        println!("\n### {}\n", table.name);
+        println!(
+            "| templates | bodies | ours | Rust | ours / Rust | scalar sum | ours / scalar sum \
+             | ours / vectorised sum | per body |"
+        );
+        println!("|---:|---:|---:|---:|---:|---:|---:|---:|---:|");
+        let (mut many, mut one) = (Most::default(), Most::default());
+        for (templates, bodies) in GRID.into_iter().filter(|at| table.has(at.0)) {
+            let shape = table.shape(templates, bodies);
+            let sums = print_row(budget, shape);
+            let most = if templates == 1 { &mut one } else { &mut many };
+            *most = most.or(sums, &shape);
+        }
+        summary.push((table, many, one));
+    }
+    println!("\n### At most, in scalar sums (templates / bodies)\n");
+    println!("| call | 16 or 1,024 templates | to reach | one template | to reach |");
+    println!("|---|---:|---:|---:|---:|");
+    for (table, many, one) in summary {
+        let (of_many, of_one) = match table.most {
+            Some((many, one)) => (many.to_string(), one.to_string()),
+            None => ("-".to_string(), "-".to_string()),
+        };
+        println!("| {} | {} | {of_many} | {} | {of_one} |", table.name, many.shown(), one.shown());
+    }
+}
+
+/// Other orders of arrival.
+pub fn print_orders(budget: Budget) {
+    println!("\n### Order of arrival\n");
+    println!(
+        "| call, order | templates | bodies | ours | Rust | ours / Rust | scalar sum \
+         | ours / scalar sum | ours / vectorised sum | per body |"
+    );
+    println!("|---|---:|---:|---:|---:|---:|---:|---:|---:|---:|");
+    for call in [Call::WouldAccept, Call::Figures, Call::OfferHeld, Call::OfferEvicts, Call::Drain]
+    {
+        for order in [Order::Turns, Order::Blocks, Order::Chance] {
+            for templates in [16, 1_024] {
+                print!("| {call:?}, {order:?} ");
+                let shape = Shape::new(call, templates, 65_536, false, LENGTH);
+                print_row(budget, Shape { order, ..shape });
+            }
+        }
+    }
+}
+
+/// Prints a row; gives how many scalar sums the call takes.
+fn print_row(budget: Budget, shape: Shape) -> f64 {
+    let mut both = Both::new(shape);
+    let taken = interleaved(
+        budget,
+        &mut both,
+        &mut [&mut Both::ours, &mut Both::rust, &mut Both::scalar, &mut Both::vectorised],
+    );
+    let [ours, rust, scalar, vectorised] = taken[..] else { unreachable!("four sides") };
+    let (rust_time, rust_ratio) = match shape.call {
+        Call::PlaceHandedOut => ("-".to_string(), "-".to_string()),
+        _ => (time(rust), ratio(ours / rust)),
+    };
+    println!(
+        "| {} | {} | {} | {rust_time} | {rust_ratio} | {} | {} | {} | {:.2} ns |",
+        grouped(shape.templates),
+        grouped(shape.bodies()),
+        time(ours),
+        time(scalar),
+        ratio(ours / scalar),
+        ratio(ours / vectorised),
+        ours / shape.bodies() as f64,
+    );
+    ours / scalar
+}
+
+/// Templates, bodies and their length: large bodies, small ones, and many.
+const MOVES: [(usize, usize, usize); 10] = [
+    (16, 1_008, 65_531),
+    (1_024, 1_024, 65_000),
+    (16, 44_000, 1_500),
+    (1_024, 43_008, 1_500),
+    (16, 65_536, 512),
+    (16, 65_536, 64),
+    (16, 262_144, 128),
+    (16, 4_096, 64),
+    (16, 256, 1_500),
+    (16, 16, 1_500),
+];
+
+/// Offers that move what others left, beside one memmove of the same bytes.
+pub fn print_moves(budget: Budget) {
+    println!("\n### Offers that move bodies or entries\n");
+    println!(
+        "| moved | templates | bodies | of bytes | bytes moved | ours | plain offer | memmove \
+         | ours / memmove | (ours - plain) / memmove |"
+    );
+    println!("|---|---:|---:|---:|---:|---:|---:|---:|---:|---:|");
+    for call in [Call::OfferPacks, Call::OfferEvictsBytes] {
+        for (templates, bodies, length) in MOVES {
+            print_move(budget, Shape::new(call, templates, bodies, false, length));
+        }
+    }
+    for (templates, bodies) in GRID.into_iter().filter(|at| at.0 > 1) {
+        print_move(budget, Shape::new(Call::OfferEvicts, templates, bodies, false, LENGTH));
+    }
+}
+
+fn print_move(budget: Budget, shape: Shape) {
+    let as_many = shape.templates * shape.per;
+    let plain = Shape::new(Call::OfferHeld, shape.templates, as_many, false, LENGTH);
+    let mut states = (Both::new(shape), Both::new(plain));
+    let taken = interleaved(
+        budget,
+        &mut states,
+        &mut [&mut |states| states.0.ours(), &mut |states| states.1.ours(), &mut |states| {
+            states.0.memmove()
+        }],
+    );
+    let [ours, plain, memmove] = taken[..] else { unreachable!("three sides") };
+    let moved = match shape.call {
+        Call::OfferPacks => "all bodies, to close a gap",
+        Call::OfferEvictsBytes => "all bodies but those evicted",
+        _ => "entries of bodies not evicted",
+    };
+    println!(
+        "| {moved} | {} | {} | {} | {} | {} | {} | {} | {} | {} |",
+        grouped(shape.templates),
+        grouped(shape.bodies()),
+        grouped(shape.length),
+        grouped(states.0.moved()),
+        time(ours),
+        time(plain),
+        time(memmove),
+        ratio(ours / memmove),
+        ratio((ours - plain) / memmove),
+    );
+}
+
+/// Makes the calls of the table of this name for a second, with nothing else but what they need.
+pub fn repeat(name: &str, templates: usize, bodies: usize) {
+    for table in TABLES.iter().filter(|table| table.name == name) {
+        let mut both = Both::new(table.shape(templates, bodies));
+        let start = Instant::now();
+        while start.elapsed() < Duration::from_secs(1) {
+            both.ours();
+        }
+    }
+}

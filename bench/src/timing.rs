@@ -1,0 +1,173 @@
+//! The time of a run, and the least of repeated measurements.
+
+use crate::counts;
+use std::arch::x86_64::{_mm_lfence, _rdtsc};
+use std::cell::Cell;
+use std::hint::black_box;
+use std::sync::OnceLock;
+use std::time::{Duration, Instant};
+
+/// Nothing before it is still under way, and nothing after it has begun.
+#[inline(always)]
+fn ticks() -> u64 {
+    // SAFETY: both are on every x86-64.
+    unsafe {
+        _mm_lfence();
+        let now = _rdtsc();
+        _mm_lfence();
+        now
+    }
+}
+
+/// The nanoseconds of one run, without the clock's own; or the run is counted.
+#[inline(always)]
+pub fn time_of<T>(run: impl FnOnce() -> T) -> (f64, T) {
+    let counting = counts::counting();
+    if counting {
+        counts::start();
+    }
+    let before = watched();
+    let start = ticks();
+    let answer = black_box(run());
+    let end = ticks();
+    let after = watched();
+    if counting {
+        counts::finish();
+    }
+    (nanoseconds(start, end, before, after), answer)
+}
+
+#[inline(never)]
+fn nanoseconds(start: u64, end: u64, before: Watched, after: Watched) -> f64 {
+    if before.switches == after.switches {
+        clock().nanoseconds(end - start)
+    } else {
+        (after.cpu - before.cpu).saturating_sub(clock().cpu_own) as f64
+    }
+}
+
+/// What turns ticks into nanoseconds.
+struct Clock {
+    ticks_per_ns: f64,
+    /// Ticks, and nanoseconds of the thread's own clock, that an empty run takes.
+    own: u64,
+    cpu_own: u64,
+}
+
+fn clock() -> &'static Clock {
+    static CLOCK: OnceLock<Clock> = OnceLock::new();
+    CLOCK.get_or_init(Clock::new)
+}
+
+impl Clock {
+    fn new() -> Self {
+        let empty = || {
+            let start = ticks();
+            black_box(());
+            ticks() - start
+        };
+        let own = (0..10_000).map(|_| empty()).min().expect("there are some");
+        let cpu_empty = || thread_time() as i128 - thread_time() as i128;
+        let cpu_own = (0..1_000).map(|_| -cpu_empty()).min().expect("there are some") as u64;
+        let (start, begin) = (Instant::now(), ticks());
+        while start.elapsed() < Duration::from_millis(50) {}
+        let (nanoseconds, passed) = (start.elapsed().as_nanos(), ticks() - begin);
+        Self { ticks_per_ns: passed as f64 / nanoseconds as f64, own, cpu_own }
+    }
+
+    /// Without the clock's own time.
+    fn nanoseconds(&self, ticks: u64) -> f64 {
+        ticks.saturating_sub(self.own) as f64 / self.ticks_per_ns
+    }
+}
+
+/// How long the repetitions of one row go on: for so long, or until there are so many, if that is
+/// later; but no longer than `LONGEST` times as long.
+#[derive(Clone, Copy)]
+pub struct Budget {
+    pub time: Duration,
+    pub runs: usize,
+}
+
+const LONGEST: u32 = 10;
+
+/// One side's measurements: the nanoseconds of a run, and how many calls that run made.
+pub type Run<'a, S> = &'a mut dyn FnMut(&mut S) -> (f64, u64);
+
+/// Runs all sides in turn, again and again, and gives the least that each took, in nanoseconds for
+/// one call. The sides share a state.
+pub fn interleaved<S>(budget: Budget, state: &mut S, sides: &mut [Run<'_, S>]) -> Vec<f64> {
+    let mut least = vec![f64::INFINITY; sides.len()];
+    let mut long = vec![true; sides.len()];
+    let mut runs = 0;
+    let start = Instant::now();
+    loop {
+        for (at, side) in sides.iter_mut().enumerate() {
+            LONG.set(long[at]);
+            let (taken, calls) = side(state);
+            LONG.set(false);
+            long[at] = taken > LONG_FROM;
+            least[at] = least[at].min(taken / calls as f64);
+        }
+        runs += 1;
+        let passed = start.elapsed();
+        if passed >= budget.time && (runs >= budget.runs || passed >= LONGEST * budget.time) {
+            return least;
+        }
+    }
+}
+
+/// Nanoseconds from which on a run is long, and may well be interrupted: then the thread's own
+/// clock counts. Asking for that takes two system calls, which a short run would notice.
+const LONG_FROM: f64 = 20_000.0;
+
+thread_local! {
+    static LONG: Cell<bool> = const { Cell::new(false) };
+}
+
+/// How often the thread was taken off its processor, and its own time; zeros in a short run.
+#[derive(Default)]
+struct Watched {
+    switches: i64,
+    cpu: u64,
+}
+
+#[inline(always)]
+fn watched() -> Watched {
+    if LONG.get() {
+        Watched { switches: involuntary_switches(), cpu: thread_time() }
+    } else {
+        Watched::default()
+    }
+}
+
+#[cold]
+#[inline(never)]
+fn involuntary_switches() -> i64 {
+    /// `struct rusage` of the C library: 18 words, the last of which is `ru_nivcsw`.
+    type Usage = [i64; 18];
+    unsafe extern "C" {
+        fn getrusage(who: i32, usage: *mut Usage) -> i32;
+    }
+    const THREAD: i32 = 1;
+    let mut usage: Usage = [0; 18];
+    // SAFETY: the words are as many as are written.
+    let answer = unsafe { getrusage(THREAD, &mut usage) };
+    assert_eq!(answer, 0, "getrusage");
+    usage[17]
+}
+
+/// Nanoseconds that the thread was on a processor.
+#[cold]
+#[inline(never)]
+fn thread_time() -> u64 {
+    unsafe extern "C" {
+        fn clock_gettime(clock: i32, time: *mut [i64; 2]) -> i32;
+    }
+    const THREAD_CPU_TIME: i32 = 3;
+    let mut time = [0; 2];
+    // SAFETY: `struct timespec` is two words.
+    let answer = unsafe { clock_gettime(THREAD_CPU_TIME, &mut time) };
+    assert_eq!(answer, 0, "clock_gettime");
+    time[0] as u64 * 1_000_000_000 + time[1] as u64
+}
