@@ -16,8 +16,9 @@ pub struct Row {
     pub args: [u64; 8],
     // number, value, and six figures
     pub told: [u64; 8],
-    // whether the line goes on so far
+    // whether the line has all of these
     pub whole: bool,
+    // whether a list follows
     pub listed: bool,
     // where the list begins
     pub next: usize,
