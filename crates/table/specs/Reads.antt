@@ -17,6 +17,11 @@ unfoldable pub labelOf : ℕ → List TemplateRecord → LabelFound
 labelOf key [] = Label.Nothing
 labelOf key (r ∷ rs) = cond (eqb key (r .key)) (Label.At (r .label)) (labelOf key rs)
 
+-- the label that was found; else what is no label
+abbrev pub labelOrNone : LabelFound → ℕ
+labelOrNone (Label.At k) = k
+labelOrNone Label.Nothing = 1024
+
 -- an entry of this label that is not expired
 abbrev pub isLive : Ttl → ℕ → ℕ → Entry → Bool
 isLive ttl now label e = eqb label (e .label) && not (expiredAt ttl now (e .clock))
