@@ -12,6 +12,15 @@ use Rattle.cache_model.specs.Cache.{Cache, Answer, number, Outcome}
 use Rattle.pending_flows.specs.View.{Areas, areasOf, cacheOf, view}
 use Rattle.pending_calls.specs.Promises.{Untouched, Performs, Does}
 
+-- a cache is not none
+isSome : Option Cache → ℕ
+isSome none = 0
+isSome (some c) = 1
+
+pub some-none : {c : Cache} → some c ≡ none → ⊥
+unfolding isSome
+some-none e = let z : _≡_ {A = ℕ} 1 0 = ap isSome e in omega arith
+
 module _ (w b : List ℕ) {v : Bool} (tested : v ≡ wellFormed w (length b)) where
   view-none : v ≡ false → view (areasOf w b) ≡ none
   unfolding view
@@ -31,15 +40,6 @@ module _ (w b : List ℕ) {v : Bool} (tested : v ≡ wellFormed w (length b)) wh
     holds = rw (view-some h) (d .holds);
     damaged = λ n. absurd (some-none (sym (view-some h) ∙ n));
   }
-    where
-      isSome : Option Cache → ℕ
-      isSome none = 0
-      isSome (some c) = 1
-
-      some-none : some (cacheOf (tableOf w) b) ≡ none → ⊥
-      some-none e =
-          let z : _≡_ {A = ℕ} 1 0 = ap isSome e in
-          omega arith
 
 pub untouched-all : (m n : ℕ) (a : Areas) → Untouched m n a a
 untouched-all m n a = record { words-behind = refl; bytes-behind = refl; words-long = refl; bytes-long = refl }

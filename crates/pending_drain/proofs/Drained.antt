@@ -7,7 +7,6 @@ use Prim.Native.Nat.{ℕ, _+_, _*_, _-_, _≤_, _<_}
 use native.Mathlib.Omega.{arith}
 use lib.ListN.{length, take, drop}
 use Rattle.config.specs.Limits.{recordWords, wordsNeeded}
-use Rattle.config.proofs.Lists.{all-front}
 use Rattle.areas.proofs.Puts.{drop-more}
 use Rattle.table.specs.declared.Entry.{Entry}
 use Rattle.table.specs.Layout.{limitsOf, cachedWord, droppedWord, heldCount, entryCount, chanceCount, entriesAt}
@@ -17,6 +16,7 @@ use Rattle.table.specs.Reads.{countSum}
 use Rattle.table.specs.WellFormed.{wellFormed}
 use Rattle.table.proofs.Words.{length-entries}
 use Rattle.table.proofs.Facts.{Placed, LegalWords, words-say}
+use Rattle.table.proofs.FoundLabels.{labelFor}
 use Rattle.table_entries.specs.Sums.{heldSum}
 use Rattle.cache_model.specs.Bodies.{Body, Template, expired, keep, allBodies, bodiesOf, without}
 use Rattle.cache_model.specs.Cache.{Cache, raised, chanceOf, count}
@@ -27,16 +27,14 @@ use Rattle.pending_flows.specs.declared.header.HeaderFigures.{HeaderFigures}
 use Rattle.pending_flows.specs.Header.{figuresAt}
 use Rattle.pending_flows.specs.View.{bodiesAt, templatesAt, chanceAt, areasOf, cacheOf}
 use Rattle.pending_flows.proofs.Questions.{first-records}
-use Rattle.pending_flows.proofs.Figures.{bodies-counted}
+use Rattle.pending_flows.proofs.Figures.{held-counted}
 use Rattle.pending_flows.proofs.Templates.{length-all-bodies}
 use Rattle.pending_flows.proofs.Weights.{counts-sum}
-use Rattle.table_view.proofs.Tied.{words-tied}
 use Rattle.table_view.proofs.Stored.{tableWith, legal-limited}
 use Rattle.pending_calls.specs.declared.removal.Removed.{Removed}
 use Rattle.pending_calls.specs.Promises.{Does}
 use Rattle.pending_calls.proofs.Headers.{headed}
 use Rattle.pending_drain.specs.Handing.{TakesOut, HandsOut}
-use Rattle.pending_drain.proofs.HeldLabels.{heldLabel}
 use Rattle.pending_drain.proofs.HeldTotals.{held-total}
 use Rattle.pending_drain.proofs.TakenOut as Out
 use Rattle.pending_drain.proofs.HandedRows.{HandedRows, rows-handed}
@@ -50,7 +48,7 @@ module _ (w b : List ℕ) (i now : ℕ) where
   cache = cacheOf (tableOf w) b
 
   abbrev label : ℕ
-  label = heldLabel i (tableOf w .held)
+  label = labelFor i (tableOf w .held)
 
   abbrev old : List Body
   old = keep (λ x. expired (limitsOf w .ttl) now x) (bodiesOf i (cache .held))
@@ -104,27 +102,14 @@ module _ (w b : List ℕ) (i now : ℕ) where
           )
 
       module _ {h : ℕ} (handed : h ≡ countSum (tableOf w .handed)) where
-        held-counted : length (allBodies (cache .held)) + h ≡ entryCount w
-        held-counted =
-            let t = tableOf w in
-            let right = words-tied w (length b) legal .counts-right in
-            omega (
-              arith,
-              bodies-counted w b ok,
-              length-all-bodies b (t .entries) (t .held) (all-front _ (t .held) (t .handed) right),
-            )
-
         dropped-counted : length old + r .entries + h ≡ entryCount w
         dropped-counted =
             omega (
               arith,
-              held-counted,
+              held-counted w b ok,
               left-counted,
               drain-drops (λ x. expired (limitsOf w .ttl) now x) i (cache .held),
             )
-
-        pub handed-few : h ≤ entryCount w
-        handed-few = omega (arith, dropped-counted)
 
         pub left-few : r .entries ≤ entryCount w - h
         left-few = omega (arith, dropped-counted)

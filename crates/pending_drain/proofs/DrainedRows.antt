@@ -15,12 +15,10 @@ use Rattle.config.specs.declared.Ttl.{Ttl}
 use Rattle.config.proofs.Lists.{All, all-map, all-both, all-front, all-back}
 use Rattle.table.specs.declared.Entry.{Entry}
 use Rattle.table.specs.declared.TemplateRecord.{TemplateRecord}
-use Rattle.table.specs.declared.LabelFound.{LabelFound}
-use Rattle.table.specs.declared.LabelFound.the-variants as Label
 use Rattle.table.specs.Table.{hasLabel, tally}
-use Rattle.table.specs.Reads.{labelOf}
 use Rattle.table.proofs.Facts.{Differ, differ-front}
 use Rattle.table.proofs.Labels.{own-labels, labels-apart}
+use Rattle.table.proofs.FoundLabels.{labelFor, found-has, found-alone}
 use Rattle.table_entries.specs.declared.StayTest.{StayTest}
 use Rattle.table_entries.specs.Sweep.{swept}
 use Rattle.table_entries.proofs.Swept.{length-swept, all-swept}
@@ -34,21 +32,21 @@ use Rattle.cache_model.proofs.Parts.{length-without}
 use Rattle.cache_model.proofs.Lists.{length-part}
 use Rattle.cache_model.proofs.Thinning.{without-thinned}
 use Rattle.pending_flows.specs.View.{bodiesAt, templatesAt}
-use Rattle.pending_flows.proofs.Templates.{length-bodies, length-templates, bodiesOfLabel, bodies-of-id, no-bodies}
+use Rattle.pending_flows.proofs.Templates.{length-bodies, length-templates, no-bodies}
+use Rattle.pending_flows.proofs.Templates.{found-bodies}
 use Rattle.table_view.proofs.Tied.{Tied, entries-small, none-above}
 use Rattle.table_view.proofs.Swept.{bodyStays, Within, swept-bodies}
 use Rattle.table_view.proofs.Removed.{labelCounts, labelCountsBut, label-counts, none-set}
 use Rattle.table_view.proofs.Closed.{Left, closed-templates, closed-append, closed-none}
 use Rattle.table_view.proofs.Summed.{lenMost}
-use Rattle.pending_drain.specs.Handing.{labelOrNone, zeros, unexpired}
-use Rattle.pending_drain.proofs.HeldLabels.{heldLabel, held-label-says, held-label-alone}
+use Rattle.pending_drain.specs.Handing.{zeros, unexpired}
 use Rattle.pending_drain.proofs.Handing.{length-zeros}
 use Rattle.pending_drain.proofs.Staying.{others-stay, live-stay, kept-few}
 
 module _ (b : List ℕ) (ttl : Ttl) (i now : ℕ) (held handed : List TemplateRecord) (es : List Entry) where
   -- the label of the id, which bodies stay, the entries that are left, and how many each other label has left
   abbrev pub label : ℕ
-  label = heldLabel i held
+  label = labelFor i held
 
   abbrev test : StayTest
   test = unexpired ttl now label
@@ -124,9 +122,9 @@ module _ (b : List ℕ) (ttl : Ttl) (i now : ℕ) (held handed : List TemplateRe
     held-small : All (λ r. r .label < 1024) held
     held-small = all-front (λ r. r .label < 1024) held handed (tied .labels-small)
 
-    alone : All (λ r. eqb i (r .key) ≡ eqb label (r .label)) held
+    alone : All (λ r. eqb label (r .label) ≡ eqb i (r .key)) held
     alone =
-        held-label-alone i held (differ-front (λ r. r .key) held handed (tied .keys-differ))
+        found-alone i held (differ-front (λ r. r .key) held handed (tied .keys-differ))
         (differ-front (λ r. r .label) held handed (tied .labels-differ)) held-small
 
     abbrev other : ℕ → List Body → List Body
@@ -135,24 +133,24 @@ module _ (b : List ℕ) (ttl : Ttl) (i now : ℕ) (held handed : List TemplateRe
     others-left : All (λ r. Left b other kept es left r) held
     others-left =
         all-both (λ r. (hasLabel (r .label) handed ≡ false) × (r .label < 1024))
-        (λ r. eqb i (r .key) ≡ eqb label (r .label)) (λ r. Left b other kept es left r) each held
+        (λ r. eqb label (r .label) ≡ eqb i (r .key)) (λ r. Left b other kept es left r) each held
         (all-both _ _ (λ r. (hasLabel (r .label) handed ≡ false) × (r .label < 1024)) (λ r x y. (x, y)) held not-handed
         held-small) alone
       where
         each : (r : TemplateRecord) → (hasLabel (r .label) handed ≡ false) × (r .label < 1024) →
-            eqb i (r .key) ≡ eqb label (r .label) → Left b other kept es left r
+            eqb label (r .label) ≡ eqb i (r .key) → Left b other kept es left r
         each r h same = by-key (eqb label (r .label)) refl
           where
             by-key : (x : Bool) → eqb label (r .label) ≡ x → Left b other kept es left r
             by-key true e =
                 let l : label ≡ r .label = eqb-true label (r .label) e in
-                rw (same ∙ e) (rw (← l) (none-set (labelCounts left) label), λ p. absurd (omega arith))
+                rw (sym same ∙ e) (rw (← l) (none-set (labelCounts left) label), λ p. absurd (omega arith))
             by-key false e =
                 let l : (label ≡ r .label → ⊥) = eqb-false label (r .label) e in
                 let whole : bodiesAt b (r .label) left ≡ bodiesAt b (r .label) es =
                 bodies-left (r .label) (h .1) 0 (rw (h .0))
                 ∙ others-stay b ttl now label es within short (r .label) l in
-                rw (same ∙ e)
+                rw (sym same ∙ e)
                 (count-left (r .label) (h .1) (λ d. l (sym d)) ∙ ap length whole, λ p. whole)
 
     pub drained-records : closed kept (held ++ handed) ≡ closed kept held
@@ -164,12 +162,12 @@ module _ (b : List ℕ) (ttl : Ttl) (i now : ℕ) (held handed : List TemplateRe
     pub drained-fresh : All (λ r. r .key ≢ i) (closed kept (held ++ handed))
     drained-fresh =
         rw drained-records
-        (closed-all kept (λ r. eqb i (r .key) ≡ eqb label (r .label)) (λ r. r .key ≢ i) fresh held alone)
+        (closed-all kept (λ r. eqb label (r .label) ≡ eqb i (r .key)) (λ r. r .key ≢ i) fresh held alone)
       where
-        fresh : (r : TemplateRecord) → eqb i (r .key) ≡ eqb label (r .label) → 0 < getD kept (r .label) 0 →
+        fresh : (r : TemplateRecord) → eqb label (r .label) ≡ eqb i (r .key) → 0 < getD kept (r .label) 0 →
             r .key ≡ i → ⊥
         fresh r same some e =
-            let l : label ≡ r .label = eqb-true label (r .label) (sym same ∙ eq-eqb i (r .key) (sym e)) in
+            let l : label ≡ r .label = eqb-true label (r .label) (same ∙ eq-eqb i (r .key) (sym e)) in
             let none : getD kept (r .label) 0 ≡ 0 = rw (← l) (none-set (labelCounts left) label) in
             omega arith
 
@@ -185,24 +183,21 @@ module _ (b : List ℕ) (ttl : Ttl) (i now : ℕ) (held handed : List TemplateRe
     no-label-none k d xs small = no-bodies b k xs (rw d (none-above xs small))
 
     bodies-of : bodiesOf i templates ≡ bodiesAt b label es
-    bodies-of = bodies-of-id b i es held ∙ by-found (labelOf i held)
-      where
-        by-found : (x : LabelFound) → bodiesOfLabel b x es ≡ bodiesAt b (labelOrNone x) es
-        by-found Label.Nothing = sym (no-label-none 1024 refl es all-small)
-        by-found (Label.At k) = refl
+    bodies-of = found-bodies b i es held (none-above es all-small)
 
     pub drained-most : label ≤ 1024
     drained-most =
-        held-label-says (λ k. k ≤ 1024) i held (omega arith)
-        (all-map (λ r. r .label < 1024) (λ r. r .label ≤ 1024) (λ r h. omega arith) held held-small)
+        found-has i (λ j k. k ≤ 1024) held
+        (all-map (λ r. r .label < 1024) (λ r. r .label ≤ 1024) (λ r h. omega arith) held held-small) (omega arith)
 
     pub drained-live : bodiesAt b label left ≡ live
     drained-live = by-label (ℕ-discrete label 1024) ∙ ap (keep (λ x. not (expired ttl now x))) (sym bodies-of)
       where
         unhanded : label < 1024 → hasLabel label handed ≡ false
         unhanded =
-            held-label-says (λ k. k < 1024 → hasLabel k handed ≡ false) i held (λ h. absurd (omega arith))
+            found-has i (λ j k. k < 1024 → hasLabel k handed ≡ false) held
             (all-map _ (λ r. r .label < 1024 → hasLabel (r .label) handed ≡ false) (λ r x y. x) held not-handed)
+            (λ h. absurd (omega arith))
 
         by-label : Dec (label ≡ 1024) →
             bodiesAt b label left ≡ keep (λ x. not (expired ttl now x)) (bodiesAt b label es)
@@ -220,9 +215,9 @@ module _ (b : List ℕ) (ttl : Ttl) (i now : ℕ) (held handed : List TemplateRe
     -- a body that is left has a label
     pub drained-small : 0 < tally label left → label < 1024
     drained-small =
-        held-label-says (λ k. 0 < tally k left → k < 1024) i held
-        (λ h. absurd (omega (arith, none-above left left-small)))
+        found-has i (λ j k. 0 < tally k left → k < 1024) held
         (all-map (λ r. r .label < 1024) (λ r. 0 < tally (r .label) left → r .label < 1024) (λ r x y. x) held held-small)
+        (λ h. absurd (omega (arith, none-above left left-small)))
 
     module _ (differ : Parts.Differ templates) (filled : Parts.Filled templates) where
       pub drained-templates : templatesAt b left (closed kept (held ++ handed)) ≡ without i templates

@@ -11,9 +11,10 @@ use Rattle.config.specs.declared.PendingFlowsConfig.{PendingFlowsConfig}
 use Rattle.config.specs.Limits.{headerWords, recordWords, entryWords}
 use Rattle.table.specs.Layout.{limitsOf, heldCount, chanceCount, entriesAt, recordsAt}
 use Rattle.table.specs.Table.{tableOf, entriesFrom, recordsFrom, indexFrom}
-use Rattle.table.specs.Reads.{labelOf, countSum}
+use Rattle.table.specs.Reads.{labelOf, countSum, labelOrNone}
 use Rattle.table.specs.WellFormed.{indexRises, wellFormed}
 use Rattle.table.proofs.Facts.{LegalWords, words-say}
+use Rattle.table.proofs.FoundLabels.{labelFor}
 use Rattle.table_entries.specs.Sums.{heldSum}
 use Rattle.cache_model.specs.Cache.{raised, count}
 use Rattle.cache_model.specs.Calls.{drained}
@@ -21,17 +22,17 @@ use Rattle.pending_flows.specs.declared.header.HeaderFigures.{HeaderFigures}
 use Rattle.pending_flows.specs.Header.{figuresAt, headerOf}
 use Rattle.pending_flows.specs.View.{areasOf, cacheOf}
 use Rattle.pending_flows.proofs.Questions.{first-records}
+use Rattle.pending_flows.proofs.Figures.{handed-few}
 use Rattle.pending_calls.specs.declared.removal.Removed.{Removed}
 use Rattle.pending_calls.specs.Promises.{Does}
 use Rattle.pending_calls.proofs.Performed.{damaged-performs, performed, untouched-all}
 use Rattle.pending_calls.proofs.Removed.{records-within}
 use Rattle.pending_drain.specs.declared.draining.DrainAnswer.the-variants as Drain
-use Rattle.pending_drain.specs.Handing.{labelOrNone, TakesOut, HandsOut}
+use Rattle.pending_drain.specs.Handing.{TakesOut, HandsOut}
 use Rattle.pending_drain.specs.Promises.{Drains}
 use Rattle.pending_drain.proofs.AsRead.{as-read}
-use Rattle.pending_drain.proofs.HeldLabels.{heldLabel}
 use Rattle.pending_drain.proofs.TakenOut.{out-tied, out-below, out-fewer}
-use Rattle.pending_drain.proofs.Drained.{bytes-fit, handed-few, left-few, drain-does}
+use Rattle.pending_drain.proofs.Drained.{bytes-fit, left-few, drain-does}
 
 -- what is asked before the header is written: of so many entries some were handed out before, and some are left
 pub record Settling (entries handed left : ℕ) (w : List ℕ) : Type 0 where
@@ -44,15 +45,15 @@ pub record Settling (entries handed left : ℕ) (w : List ℕ) : Type 0 where
 module _ (w b : List ℕ) (i now : ℕ) (ok : wellFormed w (length b) ≡ true) where
   module _ {l : PendingFlowsConfig} {f : HeaderFigures} {p a : ℕ} (limits : l ≡ limitsOf w) (figures : f ≡ figuresAt w)
       (from : p ≡ recordsAt l) (labelled : a ≡ labelOrNone (labelOf i (recordsFrom w p (f .templates)))) where
-    held-labelled : a ≡ heldLabel i (tableOf w .held)
+    held-labelled : a ≡ labelFor i (tableOf w .held)
     held-labelled =
         labelled
         ∙ as-read w limits figures from
-        (λ l f p. heldLabel i (recordsFrom w p (f .templates)) ≡ heldLabel i (tableOf w .held))
-        (ap (heldLabel i) (sym (first-records w (recordsAt (limitsOf w)) (heldCount w) (chanceCount w))))
+        (λ l f p. labelFor i (recordsFrom w p (f .templates)) ≡ labelFor i (tableOf w .held))
+        (ap (labelFor i) (sym (first-records w (recordsAt (limitsOf w)) (heldCount w) (chanceCount w))))
 
     as-labelled : (T : PendingFlowsConfig → HeaderFigures → ℕ → ℕ → Type 0) →
-        T (limitsOf w) (figuresAt w) (recordsAt (limitsOf w)) (heldLabel i (tableOf w .held)) → T l f p a
+        T (limitsOf w) (figuresAt w) (recordsAt (limitsOf w)) (labelFor i (tableOf w .held)) → T l f p a
     as-labelled T t =
         as-read w limits figures from (λ l f p. T l f p a)
         (subst (T (limitsOf w) (figuresAt w) (recordsAt (limitsOf w))) (sym held-labelled) t)
@@ -69,7 +70,7 @@ module _ (w b : List ℕ) (i now : ℕ) (ok : wellFormed w (length b) ≡ true) 
           legal : LegalWords w (length b)
           legal = words-say w (length b) ok
 
-          ready : TakesOut (limitsOf w .ttl) now (heldLabel i (tableOf w .held)) (recordsAt (limitsOf w)) (figuresAt w)
+          ready : TakesOut (limitsOf w .ttl) now (labelFor i (tableOf w .held)) (recordsAt (limitsOf w)) (figuresAt w)
               w w₁ r → Ready (recordsAt (limitsOf w))
           ready o = (
             λ some. omega (
@@ -86,10 +87,10 @@ module _ (w b : List ℕ) (i now : ℕ) (ok : wellFormed w (length b) ≡ true) 
           (long : length w₂ ≡ length w) (handed : h ≡ countSum (tableOf w .handed)) where
         -- where what was taken out and handed out says it, with the limits, figures and label read
         after-hand : (T : PendingFlowsConfig → HeaderFigures → ℕ → ℕ → Type 0) →
-            (TakesOut (limitsOf w .ttl) now (heldLabel i (tableOf w .held)) (recordsAt (limitsOf w)) (figuresAt w) w
+            (TakesOut (limitsOf w .ttl) now (labelFor i (tableOf w .held)) (recordsAt (limitsOf w)) (figuresAt w) w
             w₁ r → HandsOut (recordsAt (limitsOf w)) (r .records)
-            (record { key = i; label = heldLabel i (tableOf w .held); count = r .apart }) w₁ w₂ c →
-            T (limitsOf w) (figuresAt w) (recordsAt (limitsOf w)) (heldLabel i (tableOf w .held))) → T l f p a
+            (record { key = i; label = labelFor i (tableOf w .held); count = r .apart }) w₁ w₂ c →
+            T (limitsOf w) (figuresAt w) (recordsAt (limitsOf w)) (labelFor i (tableOf w .held))) → T l f p a
         after-hand T t =
             as-labelled
             (λ l f p a. TakesOut (l .ttl) now a p f w w₁ r → HandsOut p (r .records)
@@ -99,7 +100,7 @@ module _ (w b : List ℕ) (i now : ℕ) (ok : wellFormed w (length b) ≡ true) 
         settling =
             after-hand (λ l f p a. Settling (f .entries) h (r .entries) w₂)
             (λ o k. record {
-              less-handed = handed-few w b i now ok o id k long handed;
+              less-handed = handed-few w b ok handed;
               less-left = left-few w b i now ok o id k long handed;
               entries-fit = omega (
                 arith,

@@ -1,4 +1,3 @@
-pub mod HeldLabels
 pub mod Handing
 pub mod Staying
 pub mod DrainedRows

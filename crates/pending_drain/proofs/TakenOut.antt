@@ -17,6 +17,7 @@ use Rattle.table.specs.Layout.{limitsOf, heldCount, entryCount, chanceCount, en
 use Rattle.table.specs.Table.{tableOf, entriesFrom, recordsFrom, records, index, tally}
 use Rattle.table.proofs.Words.{length-records, records-behind}
 use Rattle.table.proofs.Facts.{Placed, LegalWords}
+use Rattle.table.proofs.FoundLabels.{labelFor}
 use Rattle.table_entries.specs.declared.StayTest.{StayTest}
 use Rattle.table_entries.specs.Sums.{heldSum}
 use Rattle.table_entries.proofs.LabelSums.{length-summed}
@@ -37,7 +38,6 @@ use Rattle.pending_drain.proofs.Handing.{length-zeros}
 use Rattle.pending_drain.proofs.LegalRows.{bodies-within, bodies-short, entries-few, handed-single, held-long}
 use Rattle.pending_drain.proofs.LegalRows.{held-limited, removed-tied, removed-below, removed-fits}
 use Rattle.pending_drain.proofs.LegalRows.{removed-placed, removed-apart}
-use Rattle.pending_drain.proofs.HeldLabels.{heldLabel}
 use Rattle.pending_drain.proofs.DrainedRows as Rows
 
 module _ (w b : List ℕ) (i now : ℕ) where
@@ -63,7 +63,7 @@ module _ (w b : List ℕ) (i now : ℕ) where
   cache = cacheOf (tableOf w) b
 
   abbrev label : ℕ
-  label = heldLabel i held
+  label = labelFor i held
 
   abbrev test : StayTest
   test = unexpired (l .ttl) now label

@@ -1,4 +1,4 @@
--- The steps of a drain on the table: the label of an id, what is taken out of the rows, and the record of what is
+-- The steps of a drain on the table: what is taken out of the rows, and the record of what is
 -- handed out. They stand here because the contracts of the steps cite them.
 use mathlib.Core.Path.{_≡_}
 use mathlib.Core.Bool.{false}
@@ -8,8 +8,6 @@ use lib.ListN.{set, replicate}
 use Rattle.config.specs.declared.Ttl.{Ttl}
 use Rattle.config.specs.Limits.{recordWords}
 use Rattle.table.specs.declared.TemplateRecord.{TemplateRecord}
-use Rattle.table.specs.declared.LabelFound.{LabelFound}
-use Rattle.table.specs.declared.LabelFound.the-variants as Label
 use Rattle.table.specs.Layout.{entriesAt}
 use Rattle.table.specs.Table.{entriesFrom, recordsFrom}
 use Rattle.table_entries.specs.declared.StayTest.{StayTest}
@@ -19,11 +17,6 @@ use Rattle.table_records.specs.Choose.{skipping}
 use Rattle.pending_flows.specs.declared.header.HeaderFigures.{HeaderFigures}
 use Rattle.pending_calls.specs.declared.removal.Removed.{Removed}
 use Rattle.pending_calls.specs.Removal.{counted, Removes}
-
--- the label that was found; else what is no label
-abbrev pub labelOrNone : LabelFound → ℕ
-labelOrNone (Label.At k) = k
-labelOrNone Label.Nothing = 1024
 
 abbrev pub zeros : List ℕ
 zeros = replicate 1024 0

@@ -6,13 +6,12 @@ ghost use lib.ListN.{length};
 ghost use Rattle.config.specs.Limits.{recordWords, entryWords};
 ghost use Rattle.table.specs.Layout.{entriesAt};
 ghost use Rattle.table.specs.Table.{tableOf, recordsFrom, indexFrom};
-ghost use Rattle.table.specs.Reads.{labelOf};
 ghost use Rattle.table.specs.WellFormed.{indexRises, wellFormed};
 ghost use Rattle.cache_model.specs.Cache.{count, raised};
 ghost use Rattle.cache_model.specs.Calls.{drained};
 ghost use Rattle.pending_flows.specs.View.{areasOf, cacheOf};
 ghost use Rattle.pending_calls.specs.Promises.{Does};
-ghost use Rattle.pending_drain.specs.Handing.{labelOrNone, TakesOut, HandsOut};
+ghost use Rattle.pending_drain.specs.Handing.{TakesOut, HandsOut};
 ghost use Rattle.pending_drain.specs.Promises.{Drains};
 use config::RECORD_WORDS;
 use config::Ttl;
@@ -24,9 +23,8 @@ use pending_flows::figures_at;
 use pending_flows::handed_count;
 use pending_flows::write_header;
 use table::LABELS;
-use table::LabelFound;
 use table::TemplateRecord;
-use table::label_of;
+use table::label_for;
 use table::limits_at;
 use table::records_at;
 use table_entries::StayTest;
@@ -48,17 +46,6 @@ fn dropped_after(figures: HeaderFigures, handed: u64, left: u64) -> u64
     ensures { λ r. ⌜ r ≡ raised (figures .dropped) (figures .entries - handed - left) ⌝ }
 {
     raised(figures.dropped, figures.entries - handed - left)
-}
-
-// The label of an id that is held; else what is no label.
-fn held_label(words: &[u64], from: usize, held: usize, id: u64) -> u64
-    requires { ⌜ from + recordWords * held ≤ length (now words) ⌝ }
-    ensures { λ r. ⌜ r ≡ labelOrNone (labelOf id (recordsFrom (now (words .entry)) from held)) ⌝ }
-{
-    let LabelFound::At(label) = label_of(words, from, held, id) else {
-        return LABELS as u64;
-    };
-    label
 }
 
 // Removes what is handed out already, the expired bodies of a label and the label's record; its other bodies stay.
@@ -125,7 +112,7 @@ fn drain_cache(words: &mut [u64], bytes: &[u8], id: u64, clock: u64) -> usize
     let figures = figures_at(words);
     let handed = handed_count(words, bytes, limits);
     let from = records_at(limits);
-    let label = held_label(words, from, figures.templates as usize, id);
+    let label = label_for(words, from, figures.templates as usize, id);
     let ttl = limits.ttl;
     let removed = take_out(words, from, figures, ttl, clock, label);
     let template = TemplateRecord {

@@ -92,7 +92,7 @@ module _ (w b : List ℕ) (ok : wellFormed w (length b) ≡ true) where
   counts-right = all-map _ _ (λ r x. x .count-right) (tableOf w .held ++ tableOf w .handed)
       (legal .table-legal .records-legal)
 
-  pub bodies-counted : countSum (tableOf w .held) + countSum (tableOf w .handed) ≡ entryCount w
+  bodies-counted : countSum (tableOf w .held) + countSum (tableOf w .handed) ≡ entryCount w
   bodies-counted =
       let t = tableOf w in
       let known : All (λ e. hasLabel (e .label) (t .held ++ t .handed) ≡ true) (t .entries) =
@@ -108,12 +108,19 @@ module _ (w b : List ℕ) (ok : wellFormed w (length b) ≡ true) where
       ∙ ap length (first-records w (recordsAt (limitsOf w)) (heldCount w) (chanceCount w))
       ∙ length-records w (recordsAt (limitsOf w)) (heldCount w))
 
-  bodies-read : {h : ℕ} → h ≡ countSum (tableOf w .handed) →
-      entryCount w - h ≡ length (allBodies (templatesAt b (tableOf w .entries) (tableOf w .held)))
-  bodies-read e =
+  -- held bodies and handed-out ones are all
+  pub held-counted : length (allBodies (cacheOf (tableOf w) b .held)) + countSum (tableOf w .handed) ≡ entryCount w
+  held-counted =
       let t = tableOf w in
-      let held = length-all-bodies b (t .entries) (t .held) (all-front _ (t .held) (t .handed) counts-right) in
-      omega (arith, bodies-counted)
+      omega (
+        arith,
+        length-all-bodies b (t .entries) (t .held) (all-front _ (t .held) (t .handed) counts-right),
+        bodies-counted,
+      )
+
+  pub bodies-read : {h : ℕ} → h ≡ countSum (tableOf w .handed) →
+      entryCount w - h ≡ length (allBodies (cacheOf (tableOf w) b .held))
+  bodies-read e = omega (arith, held-counted)
 
   total-read : totalWord w ≡ byteTotal (templatesAt b (tableOf w .entries) (tableOf w .held))
   total-read =

@@ -1,5 +1,5 @@
 -- The templates that records and entries stand for: their bodies by label, counted and looked up. Assumes nothing.
-use mathlib.Core.Path.{_≡_, refl, ap, _∙_}
+use mathlib.Core.Path.{_≡_, refl, ap, _∙_, sym}
 use mathlib.Core.Bool.{Bool, true, false, not, _&&_, cond}
 use mathlib.Core.List.{List, [], _∷_}
 use Prim.Native.Nat.{ℕ, zero, suc, _+_, _-_, _≤_, _<_}
@@ -17,7 +17,7 @@ use Rattle.table.specs.declared.LabelFound.the-variants as Label
 use Rattle.table.specs.declared.EntryFound.{EntryFound}
 use Rattle.table.specs.declared.EntryFound.the-variants as Found
 use Rattle.table.specs.Table.{tally}
-use Rattle.table.specs.Reads.{labelOf, liveCount, countSum, nthOf}
+use Rattle.table.specs.Reads.{labelOf, liveCount, countSum, nthOf, labelOrNone}
 use Rattle.cache_model.specs.Bodies.{Body, keep, allBodies, bodiesOf, expired}
 use Rattle.cache_model.specs.Queries.{noBody}
 use Rattle.pending_flows.specs.View.{bodyAt, bodiesAt, templatesAt}
@@ -77,6 +77,15 @@ module _ (bytes : List ℕ) where
           ≡ bodiesOfLabel (cond b (Label.At (r .label)) (labelOf i rs)) es
       by-key true ih = refl
       by-key false ih = ih
+
+  -- where no entry has what is no label, they are the label's
+  pub found-bodies : (i : ℕ) (es : List Entry) (rs : List TemplateRecord) → tally 1024 es ≡ 0 →
+      bodiesOf i (templatesAt bytes es rs) ≡ bodiesAt bytes (labelOrNone (labelOf i rs)) es
+  found-bodies i es rs none = bodies-of-id i es rs ∙ by-label (labelOf i rs)
+    where
+      by-label : (found : LabelFound) → bodiesOfLabel found es ≡ bodiesAt bytes (labelOrNone found) es
+      by-label (Label.At k) = refl
+      by-label Label.Nothing = sym (no-bodies 1024 es none)
 
   -- as many templates as records
   pub length-templates : (es : List Entry) (rs : List TemplateRecord) → length (templatesAt bytes es rs) ≡ length rs

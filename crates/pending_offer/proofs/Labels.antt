@@ -14,10 +14,10 @@ use Rattle.table.specs.declared.TemplateRecord.{TemplateRecord}
 use Rattle.table.specs.Layout.{limitsOf, heldCount, entryCount, chanceCount, entriesAt, recordsAt}
 use Rattle.table.specs.Table.{tableOf, entriesFrom, recordsFrom, indexFrom, hasLabel, tally}
 use Rattle.table.specs.WellFormed.{wellFormed}
-use Rattle.table.specs.Reads.{labelOf}
 use Rattle.table.proofs.Words.{length-records}
 use Rattle.table.proofs.Facts.{LegalRecord, LegalWords, words-say, differ-front}
 use Rattle.table.proofs.Labels.{absent-says, label-says, absent-tally}
+use Rattle.table.proofs.FoundLabels.{found-has, found-alone, labelFor}
 use Rattle.table_entries.proofs.Swept.{all-swept}
 use Rattle.table_entries.proofs.LabelSums.{length-summed, zeros}
 use Rattle.table_records.specs.Choose.{freeLabel}
@@ -28,7 +28,7 @@ use Rattle.cache_model.specs.Bodies.{Body, size, bodiesOf}
 use Rattle.cache_model.specs.Offer.{settled}
 use Rattle.cache_model.proofs.Thinning.{thinned}
 use Rattle.pending_flows.specs.View.{cacheOf, bodiesAt, templatesAt}
-use Rattle.pending_flows.proofs.Templates.{length-templates, no-bodies}
+use Rattle.pending_flows.proofs.Templates.{length-templates, no-bodies, found-bodies}
 use Rattle.table_view.proofs.Tied.{Tied, none-above, words-tied, entries-small, no-label-tied, tied-apart}
 use Rattle.table_view.proofs.Removed.{labelCountsBut, labelCounts, none-set}
 use Rattle.table_view.proofs.Summed.{everything}
@@ -36,11 +36,9 @@ use Rattle.pending_calls.specs.declared.removal.Removed.{Removed}
 use Rattle.pending_calls.specs.Removal.{Removes}
 use Rattle.pending_calls.proofs.Removed.{TiedRowsApart}
 use Rattle.pending_offer.specs.declared.plan.OfferPlan.{OfferPlan}
-use Rattle.pending_offer.specs.Plan.{labelOr, planTest, Plans}
+use Rattle.pending_offer.specs.Plan.{planTest, Plans}
 use Rattle.pending_offer.specs.Room.{chosenLabel}
-use Rattle.pending_offer.proofs.PlanLabels.{alike, label-alike}
 use Rattle.pending_offer.proofs.Settled.{outcome, settled-limited}
-use Rattle.pending_offer.proofs.Found.{found-has, found-bodies}
 use Rattle.pending_offer.proofs.Left.{staying, held-legal, bodies-left, kept-other, templates-left}
 use Rattle.pending_offer.proofs.Left.{left-rows, left-apart, left-entries, left-records}
 use Rattle.pending_offer.proofs.Outcomes.{leaves, others, leaves-nothing, accepted-held}
@@ -99,7 +97,7 @@ module _ (w b : List ℕ) (ok : wellFormed w (length b) ≡ true) (i : ℕ) (x :
       let keys = differ-front (λ u. u .key) held (tableOf w .handed) (legal .table-legal .keys-differ) in
       let labels = differ-front (λ u. u .label) held (tableOf w .handed) (legal .table-legal .labels-differ) in
       rw (plans .label)
-      (label-alike i held (alike held keys labels)
+      (found-alone i held keys labels
       (all-map Legal (λ u. u .label < 1024) (λ u h. h .label-small) held (held-legal w b ok (x .clock) skip plan)))
 
   all-labels : All (λ e. e .label < 1024) entries
@@ -127,13 +125,13 @@ module _ (w b : List ℕ) (ok : wellFormed w (length b) ≡ true) (i : ℕ) (x :
   own-stay : bodiesAt b (plan .label) stay ≡ leaves w b ok i x small i (bodiesOf i (cacheOf (tableOf w) b .held))
   own-stay =
       let f = leaves w b ok i x small in
-      let own : bodiesAt b (labelOr (labelOf i held)) stay ≡ f i (bodiesAt b (labelOr (labelOf i held)) entries) =
+      let own : bodiesAt b (labelFor i held) stay ≡ f i (bodiesAt b (labelFor i held) entries) =
       found-has i (λ j k. bodiesAt b k stay ≡ f j (bodiesAt b k entries)) held
       (bodies-left w b ok (x .clock) skip plan i (size x) plans x refl)
       (rw (no-bodies b 1024 stay none-stay, no-bodies b 1024 entries none-before)
       (sym (leaves-nothing w b ok i x small))) in
       ap (λ (k : ℕ). bodiesAt b k stay) (plans .label) ∙ own
-      ∙ ap (f i) (sym (found-bodies i b entries held none-before))
+      ∙ ap (f i) (sym (found-bodies b i entries held none-before))
 
   -- no record that remains has the id
   keys-fresh : All (λ u. u .key ≢ i) (closed (labelCountsBut (plan .label) stay) held)

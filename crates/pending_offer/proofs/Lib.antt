@@ -12,7 +12,6 @@ pub mod Rooms
 pub mod Additions
 pub mod TooLong
 pub mod Settled
-pub mod Found
 pub mod Left
 pub mod Outcomes
 pub mod Labels

@@ -11,7 +11,7 @@ use Rattle.config.specs.Limits.{recordWords}
 use Rattle.table.specs.Layout.{limitsOf, heldCount, entryCount, chanceCount, entriesAt, recordsAt}
 use Rattle.table.specs.Table.{tableOf, entriesFrom, recordsFrom}
 use Rattle.table.specs.WellFormed.{wellFormed}
-use Rattle.table.specs.Reads.{labelOf}
+use Rattle.table.specs.Reads.{labelOf, labelOrNone}
 use Rattle.table.proofs.Facts.{LegalWords, words-say}
 use Rattle.table_entries.proofs.LabelSums.{zeros}
 use Rattle.table_records.specs.Choose.{skipping}
@@ -20,7 +20,7 @@ use Rattle.pending_flows.specs.declared.header.HeaderFigures.{HeaderFigures}
 use Rattle.pending_flows.specs.Header.{figuresAt}
 use Rattle.pending_flows.specs.View.{cacheOf}
 use Rattle.pending_offer.specs.declared.plan.Decision.{Decision}
-use Rattle.pending_offer.specs.Plan.{liveSums, labelOr, Decides, Plans}
+use Rattle.pending_offer.specs.Plan.{liveSums, Decides, Plans}
 use Rattle.pending_offer.proofs.PlanTables.{evicted-few, held-are, handed-are, leaving-are, stay-are}
 use Rattle.pending_offer.proofs.Planned.{plan-made}
 
@@ -89,7 +89,7 @@ module _ (w b : List ℕ) (ok : wellFormed w (length b) ≡ true) (l : PendingFl
         skip₂ ≡ skipping skip₁ (recordsFrom w (p + recordWords * f .templates) (f .chance)) →
         Decides l id (liveSums (l .ttl) clock (entriesFrom w entriesAt (f .entries)))
         (recordsFrom w (p + recordWords * n) (f .templates - n)) skip₂ skip′ d →
-        label ≡ labelOr (labelOf id (recordsFrom w p (f .templates))) →
+        label ≡ labelOrNone (labelOf id (recordsFrom w p (f .templates))) →
         Plans w b id len clock skip′ (record { full = d .full; label = label; all = d .all })
     plan-done id clock label skip₀ skip₁ skip₂ skip′ d none leaving handed decided labelled =
         let leaving-read : recordsFrom w p n ≡ take n (tableOf w .held) = rw start (leaving-are w b ok n few) in

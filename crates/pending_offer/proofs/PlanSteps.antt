@@ -29,7 +29,7 @@ use Rattle.pending_flows.specs.Header.{figuresAt}
 use Rattle.pending_flows.specs.View.{cacheOf}
 use Rattle.pending_flows.proofs.Questions as Questions
 use Rattle.pending_offer.specs.declared.plan.Decision.{Decision}
-use Rattle.pending_offer.specs.Plan.{liveTest, liveSums, labelOr, liveAt, othersFill, Decides}
+use Rattle.pending_offer.specs.Plan.{liveTest, liveSums, liveAt, othersFill, Decides}
 use Rattle.pending_offer.proofs.PlanReads.{evictions-read, none-evicted}
 use Rattle.pending_offer.proofs.PlanTables.{held-sized, total-held, held-are}
 
@@ -44,10 +44,6 @@ module _ (x : LabelFound) where
 
   pub none-fills : (n most : ℕ) → x ≡ Label.Nothing → leb most n ≡ othersFill x n most
   none-fills n most f = rw f
-
-pub label-read : (id label : ℕ) (rs : List TemplateRecord) (x : LabelFound) → x ≡ labelOf id rs → label ≡ labelOr x →
-    label ≡ labelOr (labelOf id rs)
-label-read id label rs x found read = read ∙ ap labelOr found
 
 -- ---- the least recent live template
 

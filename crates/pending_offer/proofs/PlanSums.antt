@@ -1,12 +1,11 @@
 -- The sums by label that an offer takes: the bytes of each label's bodies, and its live bodies. Assumes nothing.
 use mathlib.Core.Path.{_≡_, ap, _∙_}
 use mathlib.Core.Bool.{Bool, true, false, not, _&&_, _||_, and-true}
-use mathlib.Core.List.{List, [], _∷_}
-use Prim.Native.Nat.{ℕ, zero, suc, _≤_, _<_}
+use mathlib.Core.List.{List, []}
+use Prim.Native.Nat.{ℕ, _≤_, _<_}
 use native.Mathlib.Omega.{arith}
 use lib.Dec.{eqb}
-use lib.ListN.{length, getD, drop}
-use lib.Seq.{drop-nil}
+use lib.ListN.{length, getD, drop, drop-of-length-le}
 use borrow.Author.Tests.{le-leb}
 use Rattle.config.specs.declared.Ttl.{Ttl}
 use Rattle.config.specs.declared.Ttl.the-variants.{None}
@@ -43,13 +42,8 @@ module _ (b : List ℕ) (k : ℕ) where
   pub all-skipped : (q : StayTest) (n : ℕ) (es : List Entry) → Within (length b) es → length es ≤ n →
       drop n (keep (bodyStays q k) (bodiesAt b k es)) ≡ []
   all-skipped q n es h few =
-      drop-all n (keep (bodyStays q k) (bodiesAt b k es))
+      drop-of-length-le (keep (bodyStays q k) (bodiesAt b k es)) {i = n}
       (omega (arith, label-count b q k es h, label-count-most q k es))
-    where
-      drop-all : (n : ℕ) (xs : List Body) → length xs ≤ n → drop n xs ≡ []
-      drop-all n [] h = drop-nil n
-      drop-all zero (x ∷ xs) h = absurd (omega arith)
-      drop-all (suc n) (x ∷ xs) h = drop-all n xs (omega arith)
 
   module _ (small : k < 1024) (es : List Entry) (within : Within (length b) es)
       (short : All (λ e. e .len ≤ 18446744073709551615) es) where

@@ -16,8 +16,9 @@ use Rattle.table.specs.declared.TemplateRecord.{TemplateRecord}
 use Rattle.table.specs.Layout.{limitsOf}
 use Rattle.table.specs.Table.{tableOf, index}
 use Rattle.table.specs.WellFormed.{wellFormed}
-use Rattle.table.specs.Reads.{labelOf}
-use Rattle.table.proofs.Facts.{differ-front, differ-across}
+use Rattle.table.specs.Reads.{labelOf, labelOrNone}
+use Rattle.table.proofs.Facts.{differ-front, differ-across, Differ}
+use Rattle.table.proofs.FoundLabels.{found-alone}
 use Rattle.table_entries.specs.declared.StayTest.{StayTest}
 use Rattle.table_entries.specs.Sums.{summed}
 use Rattle.table_entries.proofs.LabelSums.{zeros}
@@ -33,10 +34,10 @@ use Rattle.table_view.proofs.Swept.{bodyStays}
 use Rattle.table_view.proofs.Closed.{templates-take, templates-drop}
 use Rattle.pending_offer.specs.declared.plan.OfferPlan.{OfferPlan}
 use Rattle.pending_offer.specs.declared.plan.Decision.{Decision}
-use Rattle.pending_offer.specs.Plan.{liveTest, labelOr, liveAt, Decides, planTest, Plans}
+use Rattle.pending_offer.specs.Plan.{liveTest, liveAt, Decides, planTest, Plans}
 use Rattle.pending_offer.proofs.PlanReads.{Counted, here-read, others-read, alive-read, first-read}
 use Rattle.pending_offer.proofs.PlanLabels.{all-take, all-drop, Alike}
-use Rattle.pending_offer.proofs.PlanLabels.{alike, has-alike, label-alike}
+use Rattle.pending_offer.proofs.PlanLabels.{alike, has-alike}
 use Rattle.pending_offer.proofs.PlanSums.{keep-unaged, all-skipped}
 use Rattle.pending_offer.proofs.PlanSkips.{skipped, skipped-long, held-skipped, all-handed-skipped}
 use Rattle.pending_offer.proofs.PlanTables.{rows, labels-small, within, short, entries-few, some-templates}
@@ -160,7 +161,7 @@ module _ (w b : List ℕ) (id len clock : ℕ) where
             first-read b es (λ x. not (old x)) live (λ k j. eqb (u .label) k ≡ eqb (u .key) j) stay stay-counted a
             (omega (arith, some-templates w b ok))
 
-    module _ (label : ℕ) (labelled : label ≡ labelOr (labelOf id held)) where
+    module _ (label : ℕ) (labelled : label ≡ labelOrNone (labelOf id held)) where
       abbrev made : OfferPlan
       made = record { full = d .full; label = label; all = d .all }
 
@@ -210,15 +211,19 @@ module _ (w b : List ℕ) (id len clock : ℕ) where
       held-told : All Told held
       held-told =
           each held (labels-small w b ok) (differ-across (λ r. r .label) held (tableOf w .handed) (tied .labels-differ))
-          known (rw labelled (label-alike id held known (labels-small w b ok)))
+          known (rw labelled (found-alone id held keys labels (labels-small w b ok)))
         where
           tied : Tied (held ++ tableOf w .handed) es (index w)
           tied = rows w b ok
 
+          keys : Differ (λ r. r .key) held
+          keys = differ-front (λ r. r .key) held (tableOf w .handed) (tied .keys-differ)
+
+          labels : Differ (λ r. r .label) held
+          labels = differ-front (λ r. r .label) held (tableOf w .handed) (tied .labels-differ)
+
           known : All (λ u. All (Alike u) held) held
-          known =
-              alike held (differ-front (λ r. r .key) held (tableOf w .handed) (tied .keys-differ))
-              (differ-front (λ r. r .label) held (tableOf w .handed) (tied .labels-differ))
+          known = alike held keys labels
 
           each : (us : List TemplateRecord) → All (λ u. u .label < 1024) us →
               All (λ u. All (λ v. u .label ≢ v .label) (tableOf w .handed)) us → All (λ u. All (Alike u) held) us →

@@ -15,7 +15,7 @@ use Rattle.table.specs.declared.LabelFound.{LabelFound}
 use Rattle.table.specs.declared.LabelFound.the-variants as Label
 use Rattle.table.specs.Layout.{limitsOf}
 use Rattle.table.specs.Table.{tableOf}
-use Rattle.table.specs.Reads.{labelOf}
+use Rattle.table.specs.Reads.{labelOf, labelOrNone}
 use Rattle.table_entries.specs.declared.StayTest.{StayTest}
 use Rattle.table_entries.specs.Sums.{summed}
 use Rattle.table_records.specs.Choose.{skipAll, liveRecords, firstLive}
@@ -40,11 +40,6 @@ liveTest ttl clock = record {
 -- how many live bodies each label has
 abbrev pub liveSums : Ttl → ℕ → List Entry → List ℕ
 liveSums ttl clock es = summed (liveTest ttl clock) false (replicate 1024 0) es
-
--- the label that was found; where there is none, what is no label
-abbrev pub labelOr : LabelFound → ℕ
-labelOr (Label.At k) = k
-labelOr Label.Nothing = 1024
 
 -- how many live bodies it has, where `live` has those of each label
 abbrev pub liveAt : List ℕ → LabelFound → ℕ
@@ -82,7 +77,7 @@ pub record Plans (w b : List ℕ) (id len clock : ℕ) (skip′ : List ℕ) (r :
   pub verdict : (x : Body) → size x ≡ len →
       plan (limitsOf w) (expired (limitsOf w .ttl) clock) id x (cacheOf (tableOf w) b .held) .verdict
       ≡ cond (r .full) (refused 20) accepted
-  pub label : r .label ≡ labelOr (labelOf id (tableOf w .held))
+  pub label : r .label ≡ labelOrNone (labelOf id (tableOf w .held))
   pub thins : (x : Body) → size x ≡ len → All (λ u.
       drop (getD skip′ (u .label) 0) (keep (bodyStays (planTest (limitsOf w) clock r) (u .label))
       (bodiesAt b (u .label) (tableOf w .entries)))

@@ -13,13 +13,14 @@ ghost use Rattle.table_records.specs.Choose.{skipAll, liveRecords, firstLive};
 ghost use Rattle.cache_model.specs.Removal.{evictions};
 ghost use Rattle.pending_flows.specs.Header.{figuresAt};
 ghost use Rattle.pending_flows.specs.View.{cacheOf};
-ghost use Rattle.pending_offer.specs.Plan.{liveTest, liveSums, labelOr, liveAt, othersFill, Decides, Plans};
+ghost use Rattle.pending_offer.specs.Plan.{liveTest, liveSums, liveAt, othersFill, Decides, Plans};
 use config::PendingFlowsConfig;
 use config::RECORD_WORDS;
 use config::Ttl;
 use pending_flows::HeaderFigures;
 use table::LABELS;
 use table::LabelFound;
+use table::label_for;
 use table::label_of;
 use table::records_at;
 use table_entries::StayTest;
@@ -59,24 +60,6 @@ fn live_test(ttl: Ttl, clock: u64) -> StayTest
         label: LABELS as u64,
         max_size: 18446744073709551615,
     }
-}
-
-// The label that was found, or what is no label.
-fn label_or(found: LabelFound) -> u64
-    ensures { λ r. ⌜ r ≡ labelOr found ⌝ }
-{
-    match found {
-        LabelFound::At(label) => label,
-        LabelFound::Nothing => LABELS as u64,
-    }
-}
-
-// The label of an id; where no record has the id, what is no label.
-fn label_for(words: &[u64], from: usize, records: usize, id: u64) -> u64
-    requires { ⌜ from + recordWords * records ≤ length (now words) ⌝ }
-    ensures { λ r. ⌜ r ≡ labelOr (labelOf id (recordsFrom (now (words .entry)) from records)) ⌝ }
-{
-    label_or(label_of(words, from, records, id))
 }
 
 // How many live bodies the label that was found has.

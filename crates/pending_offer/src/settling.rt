@@ -15,14 +15,12 @@ ghost use Rattle.pending_flows.specs.Header.{figuresAt, headerOf};
 ghost use Rattle.pending_flows.specs.View.{cacheOf};
 ghost use Rattle.pending_offer.specs.Settle.{settledFigures};
 use config::PendingFlowsConfig;
-use config::RECORD_WORDS;
 use pending_calls::raised;
 use pending_flows::HeaderFigures;
+use pending_flows::handed_count;
 use pending_flows::write_header;
 use table::DROPPED;
 use table::LABELS;
-use table::record_at;
-use table::records_at;
 use table_entries::held_bytes;
 
 // Counts one more dropped body.
@@ -45,11 +43,7 @@ pub fn held_bodies(
     ensures { λ r.
         ⌜ r ≡ length (allBodies (cacheOf (tableOf (now (words .entry))) (now (bytes .entry)) .held)) ⌝ }
 {
-    if figures.chance == 0 {
-        return figures.entries;
-    }
-    let held = figures.templates as usize;
-    figures.entries - record_at(words, records_at(limits) + RECORD_WORDS * held).count
+    figures.entries - handed_count(words, bytes, limits)
 }
 
 // Writes the header after an offer: so many bodies more are cached and dropped, so many templates and bodies are held,

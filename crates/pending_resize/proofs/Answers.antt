@@ -2,7 +2,7 @@
 use mathlib.Core.Path.{_≡_, refl, sym, ap, _∙_}
 use mathlib.Core.Bool.{Bool, true, false, not}
 use mathlib.Core.List.{List}
-use mathlib.Core.Option.{Option, none, some}
+use mathlib.Core.Option.{some}
 use Prim.Native.Nat.{ℕ}
 use native.Mathlib.Omega.{arith}
 use lib.ListN.{length}
@@ -15,10 +15,9 @@ use Rattle.config.specs.declared.ConfigRefusal.the-variants.{NoTemplates, NoEnt
 use Rattle.config.specs.Limits.{refusalNumber, answerNumber, configNumber}
 use Rattle.table.specs.Table.{tableOf}
 use Rattle.table.specs.WellFormed.{wellFormed}
-use Rattle.cache_model.specs.Cache.{Cache}
 use Rattle.cache_model.specs.Calls.{resized}
 use Rattle.pending_flows.specs.View.{areasOf, cacheOf, view}
-use Rattle.pending_calls.proofs.Performed.{damaged-performs, view-some, untouched-all}
+use Rattle.pending_calls.proofs.Performed.{damaged-performs, view-some, untouched-all, some-none}
 use Rattle.pending_resize.specs.declared.resizing.ResizeAnswer.{ResizeAnswer}
 use Rattle.pending_resize.specs.declared.resizing.ResizeAnswer.the-variants as Resize
 use Rattle.pending_resize.specs.Promises.{Resizes, ResizesTo}
@@ -30,15 +29,6 @@ refusal-some NoEntries e = omega arith
 refusal-some EntrySize e = omega arith
 refusal-some TotalBytes e = omega arith
 refusal-some Areas e = omega arith
-
--- a cache is not none
-isSome : Option Cache → ℕ
-isSome none = 0
-isSome (some c) = 1
-
-some-none : {c : Cache} → some c ≡ none → ⊥
-unfolding isSome
-some-none e = let z : _≡_ {A = ℕ} 1 0 = ap isSome e in omega arith
 
 -- bodies dropped are no refusal
 isRefused : ResizeAnswer → ℕ

@@ -1,7 +1,7 @@
 -- A resized cache: what is left, under the new header. Assumes nothing.
 use mathlib.Core.Path.{_≡_, sym, ap, _∙_}
 use mathlib.Core.Bool.{true}
-use mathlib.Core.List.{List, [], _++_, append-nil}
+use mathlib.Core.List.{List, [], append-nil}
 use mathlib.Core.Option.{some}
 use Prim.Native.Nat.{ℕ, _+_, _*_, _-_, _≤_, max}
 use native.Mathlib.Omega.{arith}
@@ -10,16 +10,15 @@ use lib.Seq.{take-all}
 use Rattle.areas.specs.Overwrite.{overwritten}
 use Rattle.areas.proofs.Puts.{drop-more}
 use Rattle.config.specs.declared.PendingFlowsConfig.{PendingFlowsConfig}
-use Rattle.config.specs.Limits.{headerWords, recordWords, entryWords, maxBodies, wordsNeeded, configNumber}
+use Rattle.config.specs.Limits.{headerWords, entryWords, wordsNeeded, configNumber}
 use Rattle.config.proofs.Limits as Config
-use Rattle.config.proofs.Lists.{all-front}
 use Rattle.table.specs.declared.Entry.{Entry}
 use Rattle.table.specs.declared.TemplateRecord.{TemplateRecord}
-use Rattle.table.specs.Layout.{limitsOf, heldCount, entryCount, chanceCount, entriesAt, recordsAt}
-use Rattle.table.specs.Table.{tableOf, entriesFrom, recordsFrom, indexFrom, records, tally}
+use Rattle.table.specs.Layout.{limitsOf, entryCount, entriesAt, recordsAt}
+use Rattle.table.specs.Table.{tableOf, entriesFrom, recordsFrom, indexFrom, records}
 use Rattle.table.specs.Reads.{countSum}
 use Rattle.table.specs.WellFormed.{wellFormed}
-use Rattle.table.proofs.Words.{length-records, length-entries, length-index, records-behind}
+use Rattle.table.proofs.Words.{length-records, length-entries, length-index}
 use Rattle.table.proofs.Facts.{LegalTable, table-says, LegalWords, words-say}
 use Rattle.table_entries.specs.Sums.{heldSum}
 use Rattle.table_entries.proofs.Frames.{entries-above}
@@ -33,42 +32,21 @@ use Rattle.pending_flows.specs.View.{areasOf, cacheOf, view}
 use Rattle.pending_flows.specs.declared.header.HeaderFigures.{HeaderFigures}
 use Rattle.pending_flows.specs.Header.{figuresAt, headerOf}
 use Rattle.pending_flows.proofs.Templates.{length-all-bodies}
-use Rattle.pending_flows.proofs.Weights.{counts-sum, count-append}
+use Rattle.pending_flows.proofs.Weights.{counts-sum}
+use Rattle.pending_flows.proofs.Figures.{held-counted}
 use Rattle.pending_calls.specs.declared.removal.Removed.{Removed}
 use Rattle.pending_calls.proofs.Headers.{headed, headed-flag, headed-limits, headed-length, headed-behind}
-use Rattle.table_view.proofs.Tied.{Tied, legal-tied, words-tied}
+use Rattle.table_view.proofs.Tied.{Tied, legal-tied}
 use Rattle.table_view.proofs.Stored.{limits-legal, legal-limited, Stored, tableWith, stored-view}
 use Rattle.pending_resize.specs.Shrink.{tableLeft, Shrinks}
 use Rattle.pending_resize.specs.Promises.{ResizesTo}
 use Rattle.pending_resize.proofs.Rows.{Rows, rows-small}
 use Rattle.pending_resize.proofs.Fits.{rows-total}
 
--- ---- what is read of a well-formed cache
-
-module _ (w : List ℕ) (n : ℕ) (ok : wellFormed w n ≡ true) where
-  legal : LegalWords w n
-  legal = words-say w n ok
-
-  pub header-long : headerWords ≤ length w
-  header-long = legal .header-long
-
-  module _ (was : PendingFlowsConfig) (limits : was ≡ limitsOf w) where
-    pub old-bodies-few : maxBodies was ≤ 262144
-    old-bodies-few = rw limits (legal .limits-legal .bodies-few)
-
-    module _ (p : ℕ) (at : p ≡ recordsAt was) where
-      pub old-place : p ≡ recordsAt (limitsOf w)
-      old-place = at ∙ ap recordsAt limits
-
-      module _ (f : HeaderFigures) (figures : f ≡ figuresAt w) where
-        pub records-within : p + recordWords * (f .templates + f .chance) ≤ length w
-        records-within =
-            rw (old-place, figures) (omega (arith, legal .templates-fit, legal .limits-legal .words-enough))
-
-        pub handed-single : f .chance ≤ 1
-        handed-single = rw figures (legal .chance-flag)
-
--- ---- what is left of it
+-- where the records stand
+pub old-place : (w : List ℕ) (was : PendingFlowsConfig) → was ≡ limitsOf w → (p : ℕ) → p ≡ recordsAt was →
+    p ≡ recordsAt (limitsOf w)
+old-place w was limits p at = at ∙ ap recordsAt limits
 
 module _ (l : PendingFlowsConfig) (w b : List ℕ)
     (ok : (wellFormed w (length b) ≡ true) × (configNumber l (length b) (length w) ≡ 0)) where
@@ -80,22 +58,6 @@ module _ (l : PendingFlowsConfig) (w b : List ℕ)
 
   abbrev cache : Cache
   cache = cacheOf (tableOf w) b
-
-  -- held bodies and handed-out ones are all
-  held-count : length (allBodies (cache .held)) + countSum (tableOf w .handed) ≡ entryCount w
-  held-count =
-      let t = tableOf w in
-      let tied = words-tied w (length b) old in
-      let Counted : TemplateRecord → Type 0 = λ r. r .count ≡ tally (r .label) (t .entries) in
-      let front = all-front Counted (t .held) (t .handed) (tied .counts-right) in
-      omega (
-        arith,
-        length-all-bodies b (t .entries) (t .held) front,
-        count-append (t .held) (t .handed),
-        counts-sum (t .held ++ t .handed) (t .entries) (tied .labels-differ) (tied .labels-known)
-            (tied .counts-right),
-        length-entries w entriesAt (entryCount w),
-      )
 
   module _ (w₁ b₁ : List ℕ) (left : Removed) (s : Shrinks l w b w₁ b₁ left) where
     abbrev k : ℕ
@@ -151,16 +113,11 @@ module _ (l : PendingFlowsConfig) (w b : List ℕ)
 
     module _ (was : PendingFlowsConfig) (p : ℕ) (f : HeaderFigures) (handed : ℕ) (limits : was ≡ limitsOf w)
         (at : p ≡ recordsAt was) (figures : f ≡ figuresAt w)
-        (counted : handed ≡ countSum (recordsFrom w (p + recordWords * f .templates) (f .chance))) where
-      handed-are : handed ≡ countSum (tableOf w .handed)
-      handed-are =
-          let behind = records-behind w (recordsAt (limitsOf w)) (heldCount w) (chanceCount w) in
-          counted ∙ rw (at, limits, figures) (ap countSum (sym behind))
-
+        (counted : handed ≡ countSum (tableOf w .handed)) where
       removed-count : length (shrunk l (cache .held) .removed) + m + handed ≡ f .entries
       removed-count =
           let all : entryCount w ≡ f .entries = ap (λ (g : HeaderFigures). g .entries) (sym figures) in
-          omega (arith, resize-drops l (cache .held), left-count, held-count, handed-are)
+          omega (arith, resize-drops l (cache .held), left-count, held-counted w b (ok .0), counted)
 
       pub handed-few : handed ≤ f .entries
       handed-few = omega (arith, removed-count)

@@ -12,10 +12,9 @@ use Rattle.config.specs.Limits.{recordWords}
 use Rattle.table.specs.declared.Entry.{Entry}
 use Rattle.table.specs.declared.TemplateRecord.{TemplateRecord}
 use Rattle.table.specs.Layout.{entriesAt}
-use Rattle.table.specs.Table.{recordAt, entriesFrom, recordsFrom}
-use Rattle.table.specs.Reads.{countSum}
+use Rattle.table.specs.Table.{entriesFrom, recordsFrom}
 use Rattle.table.specs.WellFormed.{placesLegal}
-use Rattle.table.proofs.Words.{length-records, records-first, records-none}
+use Rattle.table.proofs.Words.{length-records}
 use Rattle.table.proofs.Facts.{places-say}
 use Rattle.table_entries.specs.declared.StayTest.{StayTest}
 use Rattle.table_entries.specs.Sums.{summed, heldSum}
@@ -131,17 +130,3 @@ module _ (room : ℕ) (w b : List ℕ) (m : ℕ) {end : ℕ} (ends : end ≡ las
   places-packed h s =
       let t : leb (lastEnd (entriesFrom w entriesAt m)) room ≡ false = lt-leb _ room (omega (arith, ends)) in
       record { entries = s .entries ∙ rw t; bytes = s .bytes ∙ rw t; head = s .head; tail = s .tail }
-
--- ---- the handed-out bodies
-
-module _ (w : List ℕ) (p c : ℕ) where
-  pub none-handed : c ≡ 0 → 0 ≡ countSum (recordsFrom w p c)
-  unfolding countSum
-  none-handed h = rw (records-none w p c (omega arith))
-
-  pub one-handed : (r : TemplateRecord) → r ≡ recordAt w p → (c ≡ 0 → ⊥) → c ≤ 1 →
-      r .count ≡ countSum (recordsFrom w p c)
-  unfolding countSum
-  one-handed r is some single =
-      let rest = records-none w (p + recordWords) (c - 1) (omega arith) in
-      rw (records-first w p c (omega (arith, some)) r is, rest) (omega arith)

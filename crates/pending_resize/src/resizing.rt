@@ -1,11 +1,9 @@
 // The resize.
 ghost use mathlib.Core.Path.{_≡_};
 ghost use mathlib.Core.Bool.{true};
-ghost use Prim.Native.Nat.{_+_, _*_, _≤_};
 ghost use lib.ListN.{length};
-ghost use Rattle.config.specs.Limits.{recordWords, configNumber};
-ghost use Rattle.table.specs.Table.{tableOf, recordsFrom};
-ghost use Rattle.table.specs.Reads.{countSum};
+ghost use Rattle.config.specs.Limits.{configNumber};
+ghost use Rattle.table.specs.Table.{tableOf};
 ghost use Rattle.table.specs.WellFormed.{wellFormed};
 ghost use Rattle.cache_model.specs.Cache.{raised};
 ghost use Rattle.pending_flows.specs.View.{areasOf, cacheOf};
@@ -14,14 +12,13 @@ use super::shrinking::shrink;
 use config::ConfigAnswer;
 use config::ConfigRefusal;
 use config::PendingFlowsConfig;
-use config::RECORD_WORDS;
 use pending_calls::raised;
 use pending_flows::HeaderFigures;
 use pending_flows::figures_at;
+use pending_flows::handed_count;
 use pending_flows::write_header;
 use table::LABELS;
 use table::limits_at;
-use table::record_at;
 use table::records_at;
 use table_entries::held_bytes;
 
@@ -33,17 +30,6 @@ pub enum ResizeAnswer {
     Refused(ConfigRefusal),
     // number 28
     Damaged,
-}
-
-// How many bodies are handed out: those of the record behind the held ones, where there is one.
-fn handed_bodies(words: &[u64], from: usize, held: usize, chance: u64) -> u64
-    requires { ⌜ (from + recordWords * (held + chance) ≤ length (now words)) × (chance ≤ 1) ⌝ }
-    ensures { λ r. ⌜ r ≡ countSum (recordsFrom (now (words .entry)) (from + recordWords * held) chance) ⌝ }
-{
-    if chance == 0 {
-        return 0;
-    }
-    record_at(words, from + RECORD_WORDS * held).count
 }
 
 // Resizes a well-formed cache to limits that are not refused; answers how many bodies are dropped.
@@ -58,7 +44,7 @@ fn resize_cache(words: &mut [u64], bytes: &mut [u8], config: PendingFlowsConfig)
     let limits = limits_at(words);
     let from = records_at(limits);
     let figures = figures_at(words);
-    let handed = handed_bodies(words, from, figures.templates as usize, figures.chance);
+    let handed = handed_count(words, bytes, limits);
     let left = shrink(words, bytes, from, figures, config);
     let dropped = figures.entries - handed - (left.entries as u64);
     let total = held_bytes(words, left.entries, LABELS as u64);

@@ -11,3 +11,4 @@ pub mod Counted
 pub mod Passes
 pub mod WordsPasses
 pub mod Lookups
+pub mod FoundLabels

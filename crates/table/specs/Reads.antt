@@ -24,6 +24,11 @@ unfoldable pub labelOf : ℕ → List TemplateRecord → LabelFound
 labelOf key [] = Label.Nothing
 labelOf key (r ∷ rs) = cond (eqb key (r .key)) (Label.At (r .label)) (labelOf key rs)
 
+-- the label that was found; else what is no label
+abbrev pub labelOrNone : LabelFound → ℕ
+labelOrNone (Label.At k) = k
+labelOrNone Label.Nothing = 1024
+
 -- how many bodies it counts; 0 where there is none
 unfoldable pub countOf : ℕ → List TemplateRecord → ℕ
 countOf key [] = 0

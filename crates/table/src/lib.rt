@@ -15,6 +15,7 @@ pub use layout::limits_at;
 pub use layout::record_at;
 pub use layout::records_at;
 pub use reads::count_of;
+pub use reads::label_for;
 pub use reads::label_of;
 pub use reads::live_count;
 pub use reads::nth_of;

@@ -5,9 +5,10 @@ ghost use lib.ListN.{length};
 ghost use Rattle.config.specs.Limits.{headerWords, recordWords, entryWords};
 ghost use Rattle.table.specs.Layout.{entriesAt};
 ghost use Rattle.table.specs.Table.{entriesFrom, recordsFrom};
-ghost use Rattle.table.specs.Reads.{recordOf, labelOf, countOf, isLive, liveCount, nthOf};
+ghost use Rattle.table.specs.Reads.{recordOf, labelOf, labelOrNone, countOf, isLive, liveCount, nthOf};
 use super::Entry;
 use super::EntryFound;
+use super::LABELS;
 use super::LabelFound;
 use super::RecordFound;
 use super::layout::entry_at;
@@ -58,6 +59,17 @@ pub fn count_of(words: &[u64], from: usize, records: usize, key: u64) -> u64
         RecordFound::At(template) => template.count,
         RecordFound::Nothing => 0,
     }
+}
+
+// The label of the record with this key; where there is none, what is no label.
+pub fn label_for(words: &[u64], from: usize, records: usize, key: u64) -> u64
+    requires { ⌜ from + recordWords * records ≤ length (now words) ⌝ }
+    ensures { λ r. ⌜ r ≡ labelOrNone (labelOf key (recordsFrom (now (words .entry)) from records)) ⌝ }
+{
+    let LabelFound::At(label) = label_of(words, from, records, key) else {
+        return LABELS as u64;
+    };
+    label
 }
 
 // Whether an entry has this label and is not expired.

@@ -8,19 +8,19 @@ use Rattle.pending_drain.proofs.draining.drain_cache.Statement.{stateme
 use Rattle.pending_drain.proofs.draining.drain_cache.Tie as tie
 
 -- the places before the label is found
-abbrev placed : tie.After-held-label → tie.After-records-at
+abbrev placed : tie.After-label-for → tie.After-records-at
 placed h = h .before .before
 
-abbrev handed : tie.After-held-label → tie.After-handed-count
+abbrev handed : tie.After-label-for → tie.After-handed-count
 handed h = placed h .before
 
-abbrev figured : tie.After-held-label → tie.After-figures-at
+abbrev figured : tie.After-label-for → tie.After-figures-at
 figured h = handed h .before .before
 
-abbrev limited : tie.After-held-label → tie.After-limits-at
+abbrev limited : tie.After-label-for → tie.After-limits-at
 limited h = figured h .before .before
 
-abbrev start : tie.After-held-label → tie.Start
+abbrev start : tie.After-label-for → tie.Start
 start h = limited h .before .before .before .before
 
 limits-at-requires : tie.Need-limits-at-requires
@@ -35,12 +35,12 @@ handed-count-requires c κs = search needs
 records-at-requires : tie.Need-records-at-requires
 records-at-requires c κs = search (bodies-few, needs)
 
-held-label-requires : tie.Need-held-label-requires
-held-label-requires c κs = search (held-room, needs)
+label-for-requires : tie.Need-label-for-requires
+label-for-requires c κs = search (held-room, needs)
 
 take-out-requires : tie.Need-take-out-requires
 take-out-requires c κs =
-    let h : tie.After-held-label = c .before in (
+    let h : tie.After-label-for = c .before in (
       rows-room _ (limited h .limits-at .ensures) (figured h .figures-at .ensures) (placed h .records-at .ensures) _
           (start h .pre .0),
       records-few _ (limited h .limits-at .ensures) (figured h .figures-at .ensures) (placed h .records-at .ensures) _
@@ -53,25 +53,25 @@ cast-t27 c = search needs
 hand-out-requires : tie.Need-hand-out-requires
 hand-out-requires c κs =
     let taken : tie.After-take-out = c .before .before .before .before in
-    let h : tie.After-held-label = taken .before .before in
+    let h : tie.After-label-for = taken .before .before in
     hand-ready _ (start h .args .bytes .now) _ _ (start h .pre .0)
     (limited h .limits-at .ensures) (figured h .figures-at .ensures) (placed h .records-at .ensures)
-    (h .held-label .ensures) (taken .take-out .ensures)
+    (h .label-for .ensures) (taken .take-out .ensures)
 
 -- what is known once the record of what is handed out stands
 abbrev taken : tie.After-hand-out → tie.After-take-out
 taken c = c .before .before .before .before .before
 
-abbrev labelled : tie.After-hand-out → tie.After-held-label
+abbrev labelled : tie.After-hand-out → tie.After-label-for
 labelled c = taken c .before .before
 
 settled : (c : tie.After-hand-out) →
     Settling (figured (labelled c) .figures-at .result .entries) (handed (labelled c) .handed-count .result)
     (taken c .take-out .result .entries) (c .hand-out .last .0)
 settled c =
-    let h : tie.After-held-label = labelled c in
+    let h : tie.After-label-for = labelled c in
     settling _ (start h .args .bytes .now) _ _ (start h .pre .0) (limited h .limits-at .ensures)
-    (figured h .figures-at .ensures) (placed h .records-at .ensures) (h .held-label .ensures)
+    (figured h .figures-at .ensures) (placed h .records-at .ensures) (h .label-for .ensures)
     (taken c .take-out .ensures) (start h .pre .1) (c .hand-out .ensures)
     (c .hand-out .kept .0 ∙ taken c .take-out .kept .0) (handed h .handed-count .ensures)
 
@@ -100,9 +100,9 @@ returns c =
     let summed : tie.After-held-bytes = written .before .before in
     let counted : tie.After-dropped-after = summed .before .before in
     let added : tie.After-hand-out = counted .before .before .before in
-    let h : tie.After-held-label = labelled added in
+    let h : tie.After-label-for = labelled added in
     drain-done _ _ _ _ (start h .pre .0) (limited h .limits-at .ensures) (figured h .figures-at .ensures)
-    (placed h .records-at .ensures) (h .held-label .ensures) (taken added .take-out .ensures) (start h .pre .1)
+    (placed h .records-at .ensures) (h .label-for .ensures) (taken added .take-out .ensures) (start h .pre .1)
     (added .hand-out .ensures) (added .hand-out .kept .0 ∙ taken added .take-out .kept .0)
     (handed h .handed-count .ensures) (counted .dropped-after .ensures) (summed .held-bytes .ensures)
     (written .write-header .ensures)
@@ -115,7 +115,7 @@ drain-cache-spec =
     figures-at-requires
     handed-count-requires
     records-at-requires
-    held-label-requires
+    label-for-requires
     take-out-requires
     cast-t27
     hand-out-requires

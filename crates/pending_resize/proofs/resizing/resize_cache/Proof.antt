@@ -1,5 +1,6 @@
 use borrow.Author.Needs.{needs}
-use Rattle.pending_resize.proofs.Resized.{header-long, old-bodies-few, old-place, records-within, handed-single}
+use Rattle.pending_flows.proofs.Questions.{header-within, bodies-few}
+use Rattle.pending_resize.proofs.Resized.{old-place}
 use Rattle.pending_resize.proofs.Resized.{handed-few, left-few, entries-within, bytes-small, left-header}
 use Rattle.pending_resize.proofs.Resized.{resizes-to}
 use Rattle.pending_resize.proofs.resizing.resize_cache.Statement.{statement}
@@ -12,26 +13,26 @@ start-of limits = limits .before .before .before .before
 abbrev at-of : tie.After-figures-at → tie.After-records-at
 at-of figures = figures .before .before
 
-abbrev figures-of : tie.After-handed-bodies → tie.After-figures-at
-figures-of handed = handed .before .before
+abbrev figures-of : tie.After-handed-count → tie.After-figures-at
+figures-of handed = handed .before .before .before
 
-abbrev handed-of : tie.After-shrink → tie.After-handed-bodies
+abbrev handed-of : tie.After-shrink → tie.After-handed-count
 handed-of left = left .before .before .before
 
 abbrev left-of : tie.After-held-bytes → tie.After-shrink
 left-of total = total .before .before .before .before .before .before .before
 
 limits-at-requires : tie.Need-limits-at-requires
-limits-at-requires c κs = search (header-long, needs)
+limits-at-requires c κs = search (header-within, needs)
 
 records-at-requires : tie.Need-records-at-requires
-records-at-requires c κs = search (old-bodies-few, needs)
+records-at-requires c κs = search (bodies-few, needs)
 
 figures-at-requires : tie.Need-figures-at-requires
-figures-at-requires c κs = search (header-long, needs)
+figures-at-requires c κs = search (header-within, needs)
 
-handed-bodies-requires : tie.Need-handed-bodies-requires
-handed-bodies-requires c κs = search (records-within, handed-single, needs)
+handed-count-requires : tie.Need-handed-count-requires
+handed-count-requires c κs = search needs
 
 shrink-requires : tie.Need-shrink-requires
 shrink-requires c κs = search (old-place, needs)
@@ -76,7 +77,7 @@ returns c =
     let at = at-of figures in
     let limits : tie.After-limits-at = at .before in
     resizes-to _ _ _ (start-of limits .pre) _ _ _ (left .shrink .ensures) _ _ _ _ (limits .limits-at .ensures)
-    (at .records-at .ensures) (figures .figures-at .ensures) (handed .handed-bodies .ensures) _ _ _
+    (at .records-at .ensures) (figures .figures-at .ensures) (handed .handed-count .ensures) _ _ _
     (total .held-bytes .ensures) (dropped .raised .ensures) (written .write-header .ensures)
 
 pub resize-cache-spec : {M : Type 1} → statement M
@@ -86,7 +87,7 @@ resize-cache-spec =
     limits-at-requires
     records-at-requires
     figures-at-requires
-    handed-bodies-requires
+    handed-count-requires
     shrink-requires
     sub-dropped
     sub-dropped-2

@@ -1,7 +1,7 @@
-use Rattle.pending_drain.proofs.HeldLabels.{no-label, the-label}
+use Rattle.table.proofs.FoundLabels.{no-label, the-label}
 use borrow.Author.Needs.{needs}
-use Rattle.pending_drain.proofs.draining.held_label.Statement.{statement}
-use Rattle.pending_drain.proofs.draining.held_label.Tie as tie
+use Rattle.table.proofs.reads.label_for.Statement.{statement}
+use Rattle.table.proofs.reads.label_for.Tie as tie
 
 label-of-requires : tie.Need-label-of-requires
 label-of-requires c κs = search needs
@@ -18,6 +18,6 @@ returns c = search (no-label, needs)
 returns-2 : tie.Need-returns-2
 returns-2 c = search (the-label, needs)
 
-pub held-label-spec : {M : Type 1} → statement M
-held-label-spec =
+pub label-for-spec : {M : Type 1} → statement M
+label-for-spec =
     tie.close (tie.spec label-of-requires enum-known-label enum-told returns returns-2)
