@@ -16,6 +16,10 @@ abbrev pub ttlWord : Ttl → ℕ
 ttlWord None = 0
 ttlWord (After t) = t
 
+-- the word of `pending_dropped`
+abbrev pub droppedAt : ℕ
+droppedAt = 7
+
 -- the figures that words hold
 abbrev pub figuresAt : List ℕ → HeaderFigures
 figuresAt w = record {

@@ -13,6 +13,7 @@ use Rattle.table.proofs.Facts.{words-say}
 use Rattle.cache_model.specs.Cache.{Cache, done, number, raised}
 use Rattle.cache_model.specs.Offer.{offered}
 use Rattle.pending_flows.specs.View.{Areas, areasOf, cacheOf}
+use Rattle.pending_flows.specs.Header.{droppedAt}
 use Rattle.pending_calls.specs.Promises.{Does}
 use Rattle.pending_calls.proofs.Performed.{damaged-performs, performed, untouched-all}
 use Rattle.pending_offer.specs.declared.offering.OfferRefusal.the-variants as Refusal
@@ -48,7 +49,7 @@ module _ (i : ℕ) (body : List ℕ) (clock : ℕ) (c : Cache) (a a′ : Areas) 
 
 pub too-long-offer : (w b : List ℕ) (i : ℕ) (body : List ℕ) (clock : ℕ) (l : PendingFlowsConfig) {w′ : List ℕ} →
     wellFormed w (length b) ≡ true → l ≡ limitsOf w → l .«max_entry_size_bytes» < length body →
-    w′ ≡ set w 7 (raised (droppedWord w) 1) →
+    w′ ≡ set w droppedAt (raised (droppedWord w) 1) →
     DoesOffer i body clock (cacheOf (tableOf w) b) (areasOf w b) (Offer.Refused Refusal.TooLong) (areasOf w′ b)
 too-long-offer w b i body clock l ok is long counted = record {
   does = too-long-does w b ok i (bodyOf body clock)

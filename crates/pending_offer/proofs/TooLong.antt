@@ -22,6 +22,7 @@ use Rattle.cache_model.specs.Cache.{Outcome, number, raised}
 use Rattle.cache_model.specs.Offer.{refusedSize, offered}
 use Rattle.cache_model.proofs.Calls.{refused-size-within}
 use Rattle.pending_flows.specs.View.{areasOf, cacheOf, view}
+use Rattle.pending_flows.specs.Header.{droppedAt}
 use Rattle.table_view.proofs.Stored.{Stored, legal-limited, stored-view}
 use Rattle.pending_calls.specs.Promises.{Does}
 use Rattle.pending_calls.proofs.Removed.{rows-tied, rows-placed}
@@ -34,7 +35,7 @@ module _ (w b : List ℕ) (ok : wellFormed w (length b) ≡ true) where
   dropped = raised (droppedWord w) 1
 
   abbrev words : List ℕ
-  words = set w 7 dropped
+  words = set w droppedAt dropped
 
   limits-same : limitsOf words ≡ limitsOf w
   limits-same =
@@ -71,7 +72,7 @@ module _ (w b : List ℕ) (ok : wellFormed w (length b) ≡ true) where
   dropped-view : view (areasOf words b) ≡ some (refusedSize (cacheOf (tableOf w) b) .cache)
   unfolding refusedSize
   dropped-view =
-      let long : length words ≡ length w = length-set w 7 dropped in
+      let long : length words ≡ length w = length-set w droppedAt dropped in
       let limits : Config.LegalLimits (limitsOf w) (length b) (length words) = rw long (legal .limits-legal) in
       stored-view stored b (legal .chance-flag) limits (omega (arith, legal .header-long))
       (rows-tied w (length b) legal) (rows-placed w (length b) legal) (legal .table-legal .total-right)
@@ -93,7 +94,7 @@ module _ (w b : List ℕ) (ok : wellFormed w (length b) ≡ true) where
         frame = record {
           words-behind = drop-set-lt (wordsNeeded (limitsOf w)) w 7 dropped (omega arith);
           bytes-behind = refl;
-          words-long = length-set w 7 dropped;
+          words-long = length-set w droppedAt dropped;
           bytes-long = refl;
         };
       })

@@ -8,6 +8,7 @@ use Rattle.cache_model.specs.Bodies.{Body}
 use Rattle.cache_model.specs.Cache.{Answer, done, number, raised}
 use Rattle.cache_model.specs.Offer.{offered}
 use Rattle.pending_flows.specs.View.{Areas, areasOf}
+use Rattle.pending_flows.specs.Header.{droppedAt}
 use Rattle.pending_calls.specs.Promises.{Performs, UntouchedPast}
 use Rattle.pending_offer.specs.declared.offering.OfferRefusal.{OfferRefusal}
 use Rattle.pending_offer.specs.declared.offering.OfferRefusal.the-variants as Refusal
@@ -26,14 +27,14 @@ offerAnswer (Offer.Refused n) = number (offerNumber n)
 
 -- the body that is offered; offers are not numbered here
 abbrev pub bodyOf : List ℕ → ℕ → Body
-bodyOf bytes now = record { number = 0; bytes = bytes; clock = now }
+bodyOf body now = record { number = 0; bytes = body; clock = now }
 
 -- the areas with one more in the drop counter's word, which stops at 2^64 - 1
 abbrev pub oneDropped : Areas → Areas
-oneDropped a = areasOf (set (a .words) 7 (raised (droppedWord (a .words)) 1)) (a .bytes)
+oneDropped a = areasOf (set (a .words) droppedAt (raised (droppedWord (a .words)) 1)) (a .bytes)
 
 -- "Number 6 adds one to `pending_dropped`, nothing else."
-pub record Offers (id : ℕ) (bytes : List ℕ) (now : ℕ) (a : Areas) (r : OfferAnswer) (a′ : Areas) : Type 0 where
-  pub performs : Performs (offered id (bodyOf bytes now)) a (offerAnswer r) a′
+pub record Offers (id : ℕ) (body : List ℕ) (now : ℕ) (a : Areas) (r : OfferAnswer) (a′ : Areas) : Type 0 where
+  pub performs : Performs (offered id (bodyOf body now)) a (offerAnswer r) a′
   pub tooLong : offerAnswer r ≡ number 6 → a′ ≡ oneDropped a
   pub frame : UntouchedPast (limitsOf (a .words)) a a′

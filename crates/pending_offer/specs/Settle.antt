@@ -22,7 +22,7 @@ settledFigures f cached dropped total templates entries = record {
 }
 
 -- what an offer does to a well-formed cache c
-pub record DoesOffer (id : ℕ) (bytes : List ℕ) (now : ℕ) (c : Cache) (a : Areas) (r : OfferAnswer) (a′ : Areas)
+pub record DoesOffer (id : ℕ) (body : List ℕ) (now : ℕ) (c : Cache) (a : Areas) (r : OfferAnswer) (a′ : Areas)
     : Type 0 where
-  pub does : Does (offered id (bodyOf bytes now)) c a (offerAnswer r) a′
+  pub does : Does (offered id (bodyOf body now)) c a (offerAnswer r) a′
   pub tooLong : offerAnswer r ≡ number 6 → a′ ≡ oneDropped a

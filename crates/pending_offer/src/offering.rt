@@ -6,7 +6,7 @@ ghost use lib.ListN.{length, replicate};
 ghost use Rattle.table.specs.Layout.{limitsOf, heldCount, entryCount, chanceCount, recordsAt};
 ghost use Rattle.table.specs.Table.{tableOf};
 ghost use Rattle.table.specs.WellFormed.{wellFormed};
-ghost use Rattle.cache_model.specs.Cache.{done};
+ghost use Rattle.cache_model.specs.Cache.{done, number};
 ghost use Rattle.cache_model.specs.Offer.{offered};
 ghost use Rattle.pending_flows.specs.Header.{figuresAt};
 ghost use Rattle.pending_flows.specs.View.{areasOf, cacheOf};
@@ -145,6 +145,54 @@ fn accept(
     );
 }
 
+// Turns a body down whose template is full, with what its plan removes.
+fn turn_down(
+    words: &mut [u64],
+    bytes: &[u8],
+    limits: PendingFlowsConfig,
+    figures: HeaderFigures,
+    plan: OfferPlan,
+    skip: &mut [u32; LABELS],
+    id: u64,
+    body: &[u8],
+    clock: u64,
+)
+    requires { ⌜ (wellFormed (now words) (length (now bytes)) ≡ true) × (limits ≡ limitsOf (now words)) ⌝ }
+    requires { ⌜ (figures ≡ figuresAt (now words)) × (length (now body) ≤ limitsOf (now words)
+        .«max_entry_size_bytes») ⌝ }
+    requires { ⌜ (Plans (now words) (now bytes) id (length (now body)) clock (now skip) plan) × (plan .full ≡ true) ⌝ }
+    ensures { λ _.
+        ⌜ Does (offered id (bodyOf (now (body .entry)) clock)) (cacheOf (tableOf (now (words .entry)))
+        (now (bytes .entry))) (areasOf (now (words .entry)) (now (bytes .entry))) (number 20)
+        (areasOf (now (words .exit)) (now (bytes .entry))) ⌝ }
+{
+    let held = held_bodies(words, bytes, limits, figures);
+    let mut kept = [0u32; LABELS];
+    // no label apart: the template is not promoted
+    let none = LABELS as u64;
+    let left = remove_planned(
+        words,
+        bytes,
+        limits,
+        figures,
+        plan,
+        clock,
+        skip,
+        none,
+        &mut kept,
+    );
+    let drops = held - (left.entries as u64);
+    settle(
+        words,
+        limits,
+        figures,
+        0,
+        drops + 1,
+        left.records,
+        left.entries,
+    );
+}
+
 // Offers a body that is not too long to a well-formed cache.
 fn offer_body(words: &mut [u64], bytes: &mut [u8], id: u64, body: &[u8], clock: u64) -> OfferAnswer
     requires { ⌜ (wellFormed (now words) (length (now bytes)) ≡ true) × (id < 65536) ⌝ }
@@ -159,30 +207,16 @@ fn offer_body(words: &mut [u64], bytes: &mut [u8], id: u64, body: &[u8], clock: 
     let mut skip = [0u32; LABELS];
     let plan = plan_offer(words, bytes, limits, figures, id, len, clock, &mut skip);
     if plan.full {
-        let held = held_bodies(words, bytes, limits, figures);
-        let mut kept = [0u32; LABELS];
-        // no label apart: the template is not promoted
-        let none = LABELS as u64;
-        let left = remove_planned(
+        turn_down(
             words,
             bytes,
             limits,
             figures,
             plan,
-            clock,
             &mut skip,
-            none,
-            &mut kept,
-        );
-        let drops = held - (left.entries as u64);
-        settle(
-            words,
-            limits,
-            figures,
-            0,
-            drops + 1,
-            left.records,
-            left.entries,
+            id,
+            body,
+            clock,
         );
         return OfferAnswer::Refused(OfferRefusal::TemplateFull);
     }

@@ -11,7 +11,7 @@ ghost use Rattle.table.specs.WellFormed.{wellFormed};
 ghost use Rattle.table_entries.specs.Sums.{heldSum};
 ghost use Rattle.cache_model.specs.Bodies.{allBodies};
 ghost use Rattle.cache_model.specs.Cache.{raised};
-ghost use Rattle.pending_flows.specs.Header.{figuresAt, headerOf};
+ghost use Rattle.pending_flows.specs.Header.{droppedAt, figuresAt, headerOf};
 ghost use Rattle.pending_flows.specs.View.{cacheOf};
 ghost use Rattle.pending_offer.specs.Settle.{settledFigures};
 use config::PendingFlowsConfig;
@@ -26,7 +26,7 @@ use table_entries::held_bytes;
 // Counts one more dropped body.
 pub fn count_drop(words: &mut [u64])
     requires { ⌜ headerWords ≤ length (now words) ⌝ }
-    ensures { λ _. ⌜ now (words .exit) ≡ set (now (words .entry)) 7 (raised (droppedWord (now (words .entry))) 1) ⌝ }
+    ensures { λ _. ⌜ now (words .exit) ≡ set (now (words .entry)) droppedAt (raised (droppedWord (now (words .entry))) 1) ⌝ }
 {
     words[DROPPED] = raised(words[DROPPED], 1);
 }

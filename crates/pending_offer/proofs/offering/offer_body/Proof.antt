@@ -1,7 +1,5 @@
-use mathlib.Core.Path.{refl}
 use borrow.Author.Needs.{needs}
 use Rattle.pending_flows.proofs.Questions.{header-within}
-use Rattle.pending_offer.proofs.Refused.{Refusing, refused-settles, refused-fewer, drops-fit, refused-does}
 use Rattle.pending_offer.proofs.Offered.{size-within, cached-offer, full-offer}
 use Rattle.pending_offer.proofs.offering.offer_body.Statement.{statement}
 use Rattle.pending_offer.proofs.offering.offer_body.Tie as tie
@@ -16,35 +14,6 @@ limited c = figured c .before .before
 abbrev start : tie.After-plan-offer → tie.Start
 start c = limited c .before .before .before .before .before
 
--- where the offer is turned down: the bodies are counted, and before that the offer is planned
-abbrev held : tie.After-remove-planned → tie.After-held-bodies
-held c = c .before .before .before .before .before
-
-abbrev turned-down : tie.After-remove-planned → tie.Then1
-turned-down c = held c .before .before .before
-
-abbrev planned : tie.After-remove-planned → tie.After-plan-offer
-planned c = turned-down c .before
-
-known : (c : tie.After-remove-planned) →
-    let s = start (planned c) in
-    Refusing (s .args .words .now) (s .args .bytes .now) (limited (planned c) .limits-at .result) (s .args .id)
-    (s .args .body .now) (s .args .clock) (planned c .plan-offer .result) (c .remove-planned .last .0)
-    (c .remove-planned .result)
-known c =
-    let pre = start (planned c) .pre in
-    record {
-      skip = _;
-      kept = _;
-      ok = pre .0 .0;
-      limits = limited (planned c) .limits-at .ensures;
-      small = pre .1;
-      plans = planned c .plan-offer .ensures;
-      full = turned-down c .if1 .taken;
-      removed = c .remove-planned .ensures;
-      long = c .remove-planned .kept .0;
-    }
-
 limits-at-requires : tie.Need-limits-at-requires
 limits-at-requires c κs = search (header-within, needs)
 
@@ -54,29 +23,16 @@ figures-at-requires c κs = search (header-within, needs)
 plan-offer-requires : tie.Need-plan-offer-requires
 plan-offer-requires c κs = search (size-within, needs)
 
-held-bodies-requires : tie.Need-held-bodies-requires
-held-bodies-requires c κs = search needs
-
-remove-planned-requires : tie.Need-remove-planned-requires
-remove-planned-requires c κs =
-    let counted : tie.After-held-bodies = c .before .before .before .before in
-    let plan : tie.After-plan-offer = counted .before .before .before .before in (
-      (start plan .pre .0 .0, limited plan .limits-at .ensures),
-      ((figured plan .figures-at .ensures, plan .plan-offer .ensures .long), refl),
+turn-down-requires : tie.Need-turn-down-requires
+turn-down-requires c κs =
+    let plan : tie.After-plan-offer = c .before .before .before .before in
+    let pre = start plan .pre in (
+      (pre .0 .0, limited plan .limits-at .ensures),
+      (
+        (figured plan .figures-at .ensures, pre .1),
+        (plan .plan-offer .ensures, c .before .before .before .if1 .taken),
+      ),
     )
-
-sub-drops : tie.Need-sub-drops
-sub-drops c =
-    let left : tie.After-remove-planned = c .before .before in
-    refused-fewer (known left) (held left .held-bodies .ensures)
-
-add-settle : tie.Need-add-settle
-add-settle c =
-    let left : tie.After-remove-planned = c .before .before .before in
-    record { fits = drops-fit (known left) (held left .held-bodies .ensures) }
-
-settle-requires : tie.Need-settle-requires
-settle-requires c κs = refused-settles (known (c .before .before .before))
 
 same-length : tie.Need-same-length
 same-length c = search needs
@@ -85,12 +41,7 @@ same-length-2 : tie.Need-same-length-2
 same-length-2 c = search needs
 
 returns : tie.Need-returns
-returns c =
-    let settled : tie.After-settle = c .before .before in
-    let left : tie.After-remove-planned = settled .before .before .before .before in
-    full-offer _ _ _ _ _ _
-    (refused-does (known left) (held left .held-bodies .ensures) (figured (planned left) .figures-at .ensures)
-    (settled .settle .ensures))
+returns c = search (full-offer, needs)
 
 accept-requires : tie.Need-accept-requires
 accept-requires c κs =
@@ -119,11 +70,7 @@ offer-body-spec =
     limits-at-requires
     figures-at-requires
     plan-offer-requires
-    held-bodies-requires
-    remove-planned-requires
-    sub-drops
-    add-settle
-    settle-requires
+    turn-down-requires
     same-length
     same-length-2
     returns
