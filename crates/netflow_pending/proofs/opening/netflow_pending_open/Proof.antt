@@ -1,7 +1,7 @@
 use Rattle.netflow_pending.proofs.CacheExports.{exports-open}
 use borrow.Author.Needs.{needs}
-use Rattle.netflow_pending.proofs.cache.netflow_pending_open.Statement.{statement}
-use Rattle.netflow_pending.proofs.cache.netflow_pending_open.Tie as tie
+use Rattle.netflow_pending.proofs.opening.netflow_pending_open.Statement.{statement}
+use Rattle.netflow_pending.proofs.opening.netflow_pending_open.Tie as tie
 
 limits-from-requires : tie.Need-limits-from-requires
 limits-from-requires c κs = search needs

@@ -1,6 +1,6 @@
 use borrow.Author.Tests.{eq-eqb, ne-eqb}
-use Rattle.netflow_pending.proofs.cache.ttl_from.Statement.{statement}
-use Rattle.netflow_pending.proofs.cache.ttl_from.Tie as tie
+use Rattle.netflow_pending.proofs.opening.ttl_from.Statement.{statement}
+use Rattle.netflow_pending.proofs.opening.ttl_from.Tie as tie
 
 returns : tie.Need-returns
 returns c = rw (eq-eqb _ _ (c .if1 .taken))

@@ -1,9 +1,9 @@
 use mathlib.Core.Path.{_∙_}
 use borrow.Author.Needs.{needs}
-use Rattle.netflow_pending.proofs.cache.netflow_pending_validate_config.Statement.{
+use Rattle.netflow_pending.proofs.opening.netflow_pending_validate_config.Statement.{
   statement,
 }
-use Rattle.netflow_pending.proofs.cache.netflow_pending_validate_config.Tie as tie
+use Rattle.netflow_pending.proofs.opening.netflow_pending_validate_config.Tie as tie
 
 limits-from-requires : tie.Need-limits-from-requires
 limits-from-requires c κs = search needs

@@ -1,6 +1,6 @@
 use borrow.Author.Needs.{needs}
-use Rattle.netflow_pending.proofs.cache.limits_from.Statement.{statement}
-use Rattle.netflow_pending.proofs.cache.limits_from.Tie as tie
+use Rattle.netflow_pending.proofs.opening.limits_from.Statement.{statement}
+use Rattle.netflow_pending.proofs.opening.limits_from.Tie as tie
 
 ttl-from-requires : tie.Need-ttl-from-requires
 ttl-from-requires c κs = search needs
