@@ -1,2 +1,3 @@
+pub mod Budget
 pub mod Framing
 pub mod Cache

@@ -4,8 +4,9 @@ use output_budget::OutputCounts;
 use output_preflight::PendingOutputPreflight;
 use output_preflight::PreflightAnswer;
 ghost use mathlib.Core.Path.{_≡_};
-ghost use Rattle.output_pending.specs.Pending.{above, agrees, toldOfFit, fullBudgetTold, remainingTold, Materializes};
 ghost use Rattle.output_budget.specs.Budget.{wholeOf};
+ghost use Rattle.output_pending.specs.Pending.{above, agrees};
+ghost use Rattle.output_pending.specs.Pending.{toldOfFit, fullBudgetTold, remainingTold, Materializes};
 
 // What the decoder reports of a body: its cost, and how many bytes it left.
 pub enum DecoderReport {
