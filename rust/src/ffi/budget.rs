@@ -9,23 +9,23 @@ unsafe extern "C" {
         max_payload_bytes: u64,
         limits: *mut [u64; 3],
     ) -> u32;
-    fn netflow_budget_new(max_values: u64, max_payload_bytes: u64, budget: *mut [u64; 7]) -> u32;
+    fn netflow_budget_new(budget: *mut [u64; 7], max_values: u64, max_payload_bytes: u64) -> u32;
     fn netflow_budget_reset(budget: *mut [u64; 7]) -> u32;
     fn netflow_budget_set_limits(
+        budget: *mut [u64; 7],
         max_values: u64,
         max_payload_bytes: u64,
-        budget: *mut [u64; 7],
     ) -> u32;
     fn netflow_budget_reserve(
+        budget: *mut [u64; 7],
         values: u64,
         payload_bytes: u64,
         excess: *mut [u64; 3],
-        budget: *mut [u64; 7],
     ) -> u32;
-    fn netflow_budget_rollback(values: u64, payload_bytes: u64, budget: *mut [u64; 7]) -> u32;
+    fn netflow_budget_rollback(budget: *mut [u64; 7], values: u64, payload_bytes: u64) -> u32;
     fn netflow_budget_remaining(budget: *const [u64; 7], counts: *mut [u64; 2]) -> u32;
     fn netflow_budget_is_exceeded(budget: *const [u64; 7], answer: *mut [u64; 1]) -> u32;
-    fn netflow_budget_take_exceeded(excess: *mut [u64; 3], budget: *mut [u64; 7]) -> u32;
+    fn netflow_budget_take_exceeded(budget: *mut [u64; 7], excess: *mut [u64; 3]) -> u32;
     fn netflow_budget_validate_pending_full_budget(
         budget: *const [u64; 7],
         number: u32,
@@ -37,12 +37,12 @@ unsafe extern "C" {
         cost: *const [u64; 3],
     ) -> u32;
     fn netflow_budget_materialize_pending(
+        budget: *mut [u64; 7],
         number: u32,
         cost: *const [u64; 3],
         success: u32,
         reported: *const [u64; 3],
         remainder: *mut [u64; 1],
-        budget: *mut [u64; 7],
     ) -> u32;
 }
 
@@ -75,7 +75,7 @@ impl BudgetWords {
     pub fn new(max_values: u64, max_payload: u64) -> Self {
         let mut words = [0; 7];
         // SAFETY: as above.
-        unsafe { netflow_budget_new(max_values, max_payload, &mut words) };
+        unsafe { netflow_budget_new(&mut words, max_values, max_payload) };
         Self(words)
     }
 
@@ -86,21 +86,21 @@ impl BudgetWords {
 
     pub fn set_limits(&mut self, max_values: u64, max_payload: u64) {
         // SAFETY: as above.
-        unsafe { netflow_budget_set_limits(max_values, max_payload, &mut self.0) };
+        unsafe { netflow_budget_set_limits(&mut self.0, max_values, max_payload) };
     }
 
     /// Nothing; or 23 or 24 with the excess.
     pub fn reserve(&mut self, values: u64, payload: u64) -> Result<(), (Number, [u64; 3])> {
         let mut excess = [0; 3];
         // SAFETY: as above.
-        let number = unsafe { netflow_budget_reserve(values, payload, &mut excess, &mut self.0) };
+        let number = unsafe { netflow_budget_reserve(&mut self.0, values, payload, &mut excess) };
         answered(number, ()).map_err(|number| (number, excess))
     }
 
     /// Nothing, or 26.
     pub fn rollback(&mut self, values: u64, payload: u64) -> Result<(), Number> {
         // SAFETY: as above.
-        answered(unsafe { netflow_budget_rollback(values, payload, &mut self.0) }, ())
+        answered(unsafe { netflow_budget_rollback(&mut self.0, values, payload) }, ())
     }
 
     pub fn remaining(&self) -> [u64; 2] {
@@ -121,7 +121,7 @@ impl BudgetWords {
     pub fn take_exceeded(&mut self) -> [u64; 3] {
         let mut excess = [0; 3];
         // SAFETY: as above.
-        unsafe { netflow_budget_take_exceeded(&mut excess, &mut self.0) };
+        unsafe { netflow_budget_take_exceeded(&mut self.0, &mut excess) };
         excess
     }
 
@@ -154,12 +154,12 @@ impl BudgetWords {
         // SAFETY: as above.
         let number = unsafe {
             netflow_budget_materialize_pending(
+                &mut self.0,
                 number,
                 &cost,
                 success,
                 &reported,
                 &mut remainder,
-                &mut self.0,
             )
         };
         answered(number, remainder[0])
