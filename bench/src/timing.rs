@@ -1,4 +1,4 @@
-//! The time of a run, and the least of repeated measurements.
+//! The time of a run, and what repeated measurements come to.
 
 use crate::counts;
 use std::arch::x86_64::{_mm_lfence, _rdtsc};
@@ -37,12 +37,15 @@ pub fn time_of<T>(run: impl FnOnce() -> T) -> (f64, T) {
     (nanoseconds(start, end, before, after), answer)
 }
 
+/// Of an interrupted run, those on the processor.
 #[inline(never)]
 fn nanoseconds(start: u64, end: u64, before: Watched, after: Watched) -> f64 {
-    if before.switches == after.switches {
-        clock().nanoseconds(end - start)
-    } else {
+    let interrupted = before.switches != after.switches;
+    INTERRUPTED.set(interrupted);
+    if interrupted {
         (after.cpu - before.cpu).saturating_sub(clock().cpu_own) as f64
+    } else {
+        clock().nanoseconds(end - start)
     }
 }
 
@@ -94,35 +97,65 @@ const LONGEST: u32 = 10;
 /// One side's measurements: the nanoseconds of a run, and how many calls that run made.
 pub type Run<'a, S> = &'a mut dyn FnMut(&mut S) -> (f64, u64);
 
-/// Runs all sides in turn, again and again, and gives the least that each took, in nanoseconds for
-/// one call. The sides share a state.
+/// Runs all sides in turn, again and again, and gives what each took, in nanoseconds for one call.
+/// The sides share a state.
 pub fn interleaved<S>(budget: Budget, state: &mut S, sides: &mut [Run<'_, S>]) -> Vec<f64> {
-    let mut least = vec![f64::INFINITY; sides.len()];
+    let mut taken: Vec<Taken> = sides.iter().map(|_| Taken::default()).collect();
     let mut long = vec![true; sides.len()];
     let mut runs = 0;
     let start = Instant::now();
     loop {
         for (at, side) in sides.iter_mut().enumerate() {
             LONG.set(long[at]);
-            let (taken, calls) = side(state);
+            let (time, calls) = side(state);
             LONG.set(false);
-            long[at] = taken > LONG_FROM;
-            least[at] = least[at].min(taken / calls as f64);
+            long[at] = time > LONG_FROM;
+            taken[at].add(time / calls as f64, INTERRUPTED.get());
         }
         runs += 1;
         let passed = start.elapsed();
         if passed >= budget.time && (runs >= budget.runs || passed >= LONGEST * budget.time) {
-            return least;
+            return taken.into_iter().map(Taken::figure).collect();
         }
     }
 }
 
-/// Nanoseconds from which on a run is long, and may well be interrupted: then the thread's own
-/// clock counts. Asking for that takes two system calls, which a short run would notice.
+/// What one side took.
+#[derive(Default)]
+struct Taken {
+    whole: Vec<f64>,
+    interrupted: Vec<f64>,
+}
+
+/// So many runs without an interruption are enough.
+const ENOUGH: usize = 3;
+
+impl Taken {
+    fn add(&mut self, time: f64, interrupted: bool) {
+        let list = if interrupted { &mut self.interrupted } else { &mut self.whole };
+        list.push(time);
+    }
+
+    /// The least of the runs without an interruption; where there are hardly any, the median of
+    /// the others. (Their least is none to trust: the system's account of a thread's time is off
+    /// by some microseconds, either way.)
+    fn figure(mut self) -> f64 {
+        if self.whole.len() >= ENOUGH || self.interrupted.is_empty() {
+            return self.whole.into_iter().fold(f64::INFINITY, f64::min);
+        }
+        self.interrupted.sort_by(f64::total_cmp);
+        self.interrupted[self.interrupted.len() / 2]
+    }
+}
+
+/// Nanoseconds from which on a run is long, and may well be interrupted: then it is watched. That
+/// takes system calls, which a short run would notice.
 const LONG_FROM: f64 = 20_000.0;
 
 thread_local! {
     static LONG: Cell<bool> = const { Cell::new(false) };
+    /// Whether the last run was.
+    static INTERRUPTED: Cell<bool> = const { Cell::new(false) };
 }
 
 /// How often the thread was taken off its processor, and its own time; zeros in a short run.
