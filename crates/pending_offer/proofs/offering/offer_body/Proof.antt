@@ -62,7 +62,10 @@ remove-planned-requires c κs =
     let counted : tie.After-held-bodies = c .before .before .before .before in
     let plan : tie.After-plan-offer = counted .before .before .before .before in (
       (start plan .pre .0 .0, limited plan .limits-at .ensures),
-      ((figured plan .figures-at .ensures, plan .plan-offer .ensures .long), refl),
+      (
+        (figured plan .figures-at .ensures, plan .plan-offer .ensures .long),
+        (refl, plan .plan-offer .ensures .keeps-all),
+      ),
     )
 
 sub-drops : tie.Need-sub-drops
