@@ -69,12 +69,11 @@ module _ (w : List ℕ) (n : ℕ) (ok : wellFormed w n ≡ true) where
     records-fit = omega (arith, records-few)
 
     module _ (l : PendingFlowsConfig) (limits : l ≡ limitsOf w) (p : ℕ) (from : p ≡ recordsAt l) where
-      pub rows-within : (entriesAt + entryWords * f .entries ≤ p)
-          × (p + recordWords * (f .templates + f .chance) ≤ length w)
-      rows-within = rw (is, from, limits) (entries-below-records w n legal, records-within w n legal)
+      pub entries-below : entriesAt + entryWords * f .entries ≤ p
+      entries-below = rw (is, from, limits) (entries-below-records w n legal)
 
       pub records-inside : p + recordWords * (f .templates + f .chance) ≤ length w
-      records-inside = rows-within .1
+      records-inside = rw (is, from, limits) (records-within w n legal)
 
       pub none-removed : (apart : ℕ) (kept kept₁ kept′ w′ : List ℕ) (remain bodies : ℕ) → kept ≡ zeros →
           kept₁ ≡ recordCounts kept (recordsFrom w p (f .templates + f .chance)) → bodies ≡ getD kept₁ apart 0 →

@@ -1,6 +1,7 @@
 pub mod PlanReads
 pub mod PlanLabels
 pub mod PlanSums
+pub mod PlanLive
 pub mod PlanSkips
 pub mod PlanTables
 pub mod Planned

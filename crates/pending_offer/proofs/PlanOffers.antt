@@ -1,7 +1,7 @@
 -- The plan of an offer from its steps, with the limits l and the figures f that were read, the records from word p on,
 -- and n templates that go for their bytes. Assumes nothing.
 use mathlib.Core.Path.{_≡_, ap, _∙_}
-use mathlib.Core.Bool.{true}
+use mathlib.Core.Bool.{Bool, true}
 use mathlib.Core.List.{List}
 use Prim.Native.Nat.{ℕ, _+_, _*_, _-_, _≤_, _<_}
 use native.Mathlib.Omega.{arith}
@@ -20,8 +20,10 @@ use Rattle.pending_flows.specs.declared.header.HeaderFigures.{HeaderFigures}
 use Rattle.pending_flows.specs.Header.{figuresAt}
 use Rattle.pending_flows.specs.View.{cacheOf}
 use Rattle.pending_offer.specs.declared.plan.Decision.{Decision}
-use Rattle.pending_offer.specs.Plan.{liveSums, Decides, Plans}
-use Rattle.pending_offer.proofs.PlanTables.{evicted-few, held-are, handed-are, leaving-are, stay-are}
+use Rattle.pending_offer.specs.Plan.{liveSums, LiveRead, Decides, NothingGoes, Plans}
+use Rattle.pending_offer.proofs.PlanTables.{evicted-few, held-read, held-are, handed-are}
+use Rattle.pending_offer.proofs.PlanTables.{leaving-are, stay-are}
+use Rattle.pending_offer.proofs.PlanLabels.{all-drop}
 use Rattle.pending_offer.proofs.Planned.{plan-made}
 
 module _ (w b : List ℕ) (ok : wellFormed w (length b) ≡ true) (l : PendingFlowsConfig) (limits : l ≡ limitsOf w)
@@ -84,21 +86,33 @@ module _ (w b : List ℕ) (ok : wellFormed w (length b) ≡ true) (l : PendingFl
         evicted
         ∙ ap (λ (k : PendingFlowsConfig). evictions (k .«max_total_bytes») len (cacheOf (tableOf w) b .held)) limits
 
-    pub plan-done : (id clock label : ℕ) (skip₀ skip₁ skip₂ skip′ : List ℕ) (d : Decision) → skip₀ ≡ zeros →
+    stay-read : recordsFrom w (p + recordWords * n) (f .templates - n) ≡ drop n (tableOf w .held)
+    stay-read = rw (start, held-many) (stay-are w b ok n few)
+
+    -- what a decision on the records that stay reads
+    pub live-read : (clock : ℕ) →
+        LiveRead (l .ttl) clock (recordsFrom w (p + recordWords * n) (f .templates - n))
+        (entriesFrom w entriesAt (f .entries))
+    live-read clock =
+        let all = held-read w b ok clock in
+        rw (stay-read, limits, entries-many) (record {
+          counts = all-drop _ n (tableOf w .held) (all .counts);
+          live = all-drop _ n (tableOf w .held) (all .live);
+        })
+
+    pub plan-done : (id clock label : ℕ) (skip₀ skip₁ skip₂ skip′ : List ℕ) (d : Decision) (v : Bool) → skip₀ ≡ zeros →
         skip₁ ≡ skipping skip₀ (recordsFrom w p n) →
         skip₂ ≡ skipping skip₁ (recordsFrom w (p + recordWords * f .templates) (f .chance)) →
         Decides l id (liveSums (l .ttl) clock (entriesFrom w entriesAt (f .entries)))
         (recordsFrom w (p + recordWords * n) (f .templates - n)) skip₂ skip′ d →
-        label ≡ labelOrNone (labelOf id (recordsFrom w p (f .templates))) →
-        Plans w b id len clock skip′ (record { full = d .full; label = label; all = d .all })
-    plan-done id clock label skip₀ skip₁ skip₂ skip′ d none leaving handed decided labelled =
+        label ≡ labelOrNone (labelOf id (recordsFrom w p (f .templates))) → (v ≡ true → NothingGoes n (f .chance) d) →
+        Plans w b id len clock skip′ (record { full = d .full; label = label; all = d .all; none = v })
+    plan-done id clock label skip₀ skip₁ skip₂ skip′ d v none leaving handed decided labelled certain =
         let leaving-read : recordsFrom w p n ≡ take n (tableOf w .held) = rw start (leaving-are w b ok n few) in
-        let stay-read : recordsFrom w (p + recordWords * n) (f .templates - n) ≡ drop n (tableOf w .held) =
-        rw (start, held-many) (stay-are w b ok n few) in
         let handed-read : recordsFrom w (p + recordWords * f .templates) (f .chance) ≡ tableOf w .handed =
         rw (start, held-many, handed-many) (handed-are w b ok) in
-        let held-read : recordsFrom w p (f .templates) ≡ tableOf w .held = rw (start, held-many) (held-are w b ok) in
+        let held-rows : recordsFrom w p (f .templates) ≡ tableOf w .held = rw (start, held-many) (held-are w b ok) in
         let skips : skip₂ ≡ skipping (skipping zeros (take n (tableOf w .held))) (tableOf w .handed) =
         handed ∙ rw (handed-read, leaving, leaving-read, none) in
         plan-made w b id len clock ok n goes d skip′ (rw (limits, entries-many, stay-read, skips) at decided) label
-        (labelled ∙ rw held-read)
+        (labelled ∙ rw held-rows) v (λ e. rw handed-many at (certain e))

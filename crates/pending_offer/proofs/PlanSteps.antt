@@ -4,20 +4,20 @@ use mathlib.Core.Bool.{Bool, true, false, cond}
 use mathlib.Core.List.{List}
 use Prim.Native.Nat.{ℕ, _+_, _*_, _-_, _≤_, _<_}
 use native.Mathlib.Omega.{arith}
-use lib.Dec.{leb, ltb}
+use lib.Dec.{eqb, leb, ltb}
 use lib.ListN.{length, getD, set}
-use borrow.Author.Tests.{lt-ltb, le-ltb, lt-leb, le-leb}
+use borrow.Author.Tests.{eqb-true, lt-ltb, le-ltb, lt-leb, le-leb}
 use Rattle.config.specs.declared.Ttl.the-variants.{None}
 use Rattle.config.specs.declared.PendingFlowsConfig.{PendingFlowsConfig}
 use Rattle.config.specs.Limits.{recordWords, entryWords, maxBodies}
 use Rattle.table.specs.declared.Entry.{Entry}
 use Rattle.table.specs.declared.TemplateRecord.{TemplateRecord}
+use Rattle.table.specs.declared.RecordFound.{RecordFound}
 use Rattle.table.specs.declared.LabelFound.{LabelFound}
-use Rattle.table.specs.declared.LabelFound.the-variants as Label
 use Rattle.table.specs.Layout.{limitsOf, entriesAt, recordsAt}
 use Rattle.table.specs.Table.{tableOf, entriesFrom, recordsFrom}
 use Rattle.table.specs.WellFormed.{wellFormed}
-use Rattle.table.specs.Reads.{labelOf}
+use Rattle.table.specs.Reads.{recordOf, labelIn, countIn, labelOf, countOf}
 use Rattle.table.proofs.Words.{length-records}
 use Rattle.table_entries.specs.declared.StayTest.{StayTest}
 use Rattle.table_entries.specs.Sums.{summed}
@@ -28,74 +28,81 @@ use Rattle.pending_flows.specs.declared.header.HeaderFigures.{HeaderFigures}
 use Rattle.pending_flows.specs.Header.{figuresAt}
 use Rattle.pending_flows.specs.View.{cacheOf}
 use Rattle.pending_flows.proofs.Questions as Questions
-use Rattle.pending_offer.specs.declared.plan.Decision.{Decision}
-use Rattle.pending_offer.specs.Plan.{liveTest, liveSums, liveAt, othersFill, Decides}
+use Rattle.pending_offer.specs.Plan.{liveTest, liveSums, liveIn, LiveRead}
+use Rattle.pending_offer.specs.Plan.{liveAt, othersFill, skippingFirst, Decides}
 use Rattle.pending_offer.proofs.PlanReads.{evictions-read, none-evicted}
+use Rattle.pending_offer.proofs.PlanLive.{label-is, count-is, live-is}
 use Rattle.pending_offer.proofs.PlanTables.{held-sized, total-held, held-are}
 
--- ---- by what was found
-
-module _ (x : LabelFound) where
-  pub found-live : (live : List ℕ) (k n : ℕ) → n ≡ getD live k 0 → x ≡ Label.At k → n ≡ liveAt live x
-  found-live live k n e f = rw f e
-
-  pub found-fills : (k n most : ℕ) → x ≡ Label.At k → ltb most n ≡ othersFill x n most
-  found-fills k n most f = rw f
-
-  pub none-fills : (n most : ℕ) → x ≡ Label.Nothing → leb most n ≡ othersFill x n most
-  none-fills n most f = rw f
 
 -- ---- the least recent live template
 
 module _ (live skip : List ℕ) (rs : List TemplateRecord) (most n : ℕ) (counted : n ≡ liveRecords live rs) where
-  pub first-stays : n < most →
-      skip ≡ cond (leb most (liveRecords live rs)) (set skip (firstLive live rs) skipAll) skip
+  pub first-stays : n < most → skip ≡ skippingFirst most live rs skip
   first-stays h = rw (lt-leb most (liveRecords live rs) (omega arith))
 
   pub first-goes : (k : ℕ) (skip′ : List ℕ) → most ≤ n → k ≡ firstLive live rs → skip′ ≡ set skip k skipAll →
-      skip′ ≡ cond (leb most (liveRecords live rs)) (set skip (firstLive live rs) skipAll) skip
+      skip′ ≡ skippingFirst most live rs skip
   first-goes k skip′ h first stored = rw (le-leb most (liveRecords live rs) (omega arith), stored, first)
 
--- ---- the decision
-
-module _ (l : PendingFlowsConfig) (id : ℕ) (w live skip : List ℕ) (p n : ℕ) (x : LabelFound) (h : ℕ)
-    (found : x ≡ labelOf id (recordsFrom w p n)) (counted : h ≡ liveAt live x) where
-  abbrev rs : List TemplateRecord
-  rs = recordsFrom w p n
-
-  here : liveAt live (labelOf id rs) ≡ h
-  here = ap (liveAt live) (sym found) ∙ sym counted
-
-  pub held-decided : 0 < h →
-      Decides l id live rs skip skip (record { full = leb (l .«max_entries_per_template») h; all = false })
-  held-decided some =
-      let tested : ltb 0 h ≡ true = lt-ltb 0 h some in
-      record { full = rw (here, tested); all = rw (here, tested); skips = refl }
-
-  module _ (none : h ≤ 0) (t : Bool) (tested : t ≡ othersFill x n (l .«max_pending_flows»)) where
-    no-bodies : ltb 0 h ≡ false
-    no-bodies = le-ltb 0 h none
-
-    filled : othersFill (labelOf id rs) (length rs) (l .«max_pending_flows») ≡ t
-    filled = rw (length-records w p n, ← found) (sym tested)
-
-    pub new-decided : t ≡ false → Decides l id live rs skip skip (record { full = false; all = false })
-    new-decided e = record { full = rw (here, no-bodies); all = rw (here, no-bodies, filled, e); skips = refl }
-
-    pub new-full-decided : (skip′ : List ℕ) → t ≡ true →
-        skip′ ≡ cond (leb (l .«max_pending_flows») (liveRecords live rs)) (set skip (firstLive live rs) skipAll) skip →
-        Decides l id live rs skip skip′ (record { full = false; all = true })
-    new-full-decided skip′ e stored =
-        record { full = rw (here, no-bodies); all = rw (here, no-bodies, filled, e); skips = stored }
-
 -- with the live bodies of each label summed
-pub sums-decided : (l : PendingFlowsConfig) (id clock : ℕ) (es : List Entry) (rs : List TemplateRecord)
-    (sums skip skip′ : List ℕ) (q : StayTest) (d : Decision) → q ≡ liveTest (l .ttl) clock →
-    sums ≡ summed q false zeros es → Decides l id sums rs skip skip′ d →
-    Decides l id (liveSums (l .ttl) clock es) rs skip skip′ d
-sums-decided l id clock es rs sums skip skip′ q d tests counted decided =
+pub oldest-skipped : (l : PendingFlowsConfig) (clock : ℕ) (es : List Entry) (rs : List TemplateRecord)
+    (sums skip skip′ : List ℕ) (q : StayTest) → q ≡ liveTest (l .ttl) clock → sums ≡ summed q false zeros es →
+    skip′ ≡ skippingFirst (l .«max_pending_flows») sums rs skip →
+    skip′ ≡ skippingFirst (l .«max_pending_flows») (liveSums (l .ttl) clock es) rs skip
+oldest-skipped l clock es rs sums skip skip′ q tests counted stored =
     let is : sums ≡ liveSums (l .ttl) clock es = counted ∙ rw tests in
-    rw is at decided
+    rw is at stored
+
+-- ---- the decision: h live bodies are found, and the record counts c
+
+module _ (l : PendingFlowsConfig) (id clock : ℕ) (w : List ℕ) (es : List Entry) (skip : List ℕ) (p n : ℕ)
+    (x : RecordFound) (h c : ℕ) (reads : LiveRead (l .ttl) clock (recordsFrom w p n) es)
+    (found : x ≡ recordOf id (recordsFrom w p n)) (read : h ≡ liveIn (l .ttl) clock es x) (counted : c ≡ countIn x)
+  where
+    abbrev rs : List TemplateRecord
+    rs = recordsFrom w p n
+
+    abbrev live : List ℕ
+    live = liveSums (l .ttl) clock es
+
+    here : liveAt live (labelOf id rs) ≡ h
+    here = sym (read ∙ live-is reads id found)
+
+    fresh : eqb h c ≡ true → liveAt live (labelOf id rs) ≡ countOf id rs
+    fresh e = here ∙ eqb-true h c e ∙ counted ∙ count-is reads id found
+
+    pub held-decided : 0 < h →
+        Decides l id live rs skip skip
+        (record { full = leb (l .«max_entries_per_template») h; all = false; live = eqb h c })
+    held-decided some =
+        let tested : ltb 0 h ≡ true = lt-ltb 0 h some in
+        record { full = rw (here, tested); all = rw (here, tested); skips = refl; none-expired = fresh }
+
+    module _ (none : h ≤ 0) (t : Bool) (tested : t ≡ othersFill (labelIn x) n (l .«max_pending_flows»)) where
+      no-bodies : ltb 0 h ≡ false
+      no-bodies = le-ltb 0 h none
+
+      filled : othersFill (labelOf id rs) (length rs) (l .«max_pending_flows») ≡ t
+      filled = rw (length-records w p n, ← label-is reads id found) (sym tested)
+
+      pub new-decided : t ≡ false →
+          Decides l id live rs skip skip (record { full = false; all = false; live = eqb h c })
+      new-decided e = record {
+        full = rw (here, no-bodies);
+        all = rw (here, no-bodies, filled, e);
+        skips = refl;
+        none-expired = fresh;
+      }
+
+      pub new-full-decided : (skip′ : List ℕ) → t ≡ true → skip′ ≡ skippingFirst (l .«max_pending_flows») live rs skip →
+          Decides l id live rs skip skip′ (record { full = false; all = true; live = eqb h c })
+      new-full-decided skip′ e stored = record {
+        full = rw (here, no-bodies);
+        all = rw (here, no-bodies, filled, e);
+        skips = stored;
+        none-expired = fresh;
+      }
 
 -- ---- the evictions, with the limits l and the figures f that were read
 

@@ -13,7 +13,7 @@ use Rattle.config.proofs.Lists.{All, all-map, all-front}
 use Rattle.table.specs.declared.Entry.{Entry}
 use Rattle.table.specs.declared.TemplateRecord.{TemplateRecord}
 use Rattle.table.specs.Layout.{limitsOf, totalWord, heldCount, entryCount, chanceCount, entriesAt, recordsAt}
-use Rattle.table.specs.Table.{tableOf, index, recordsFrom}
+use Rattle.table.specs.Table.{tableOf, index, recordsFrom, tally}
 use Rattle.table.specs.WellFormed.{wellFormed}
 use Rattle.table.proofs.Words.{length-entries, length-records, records-behind}
 use Rattle.table.proofs.Facts.{LegalWords, words-say, differ-front}
@@ -22,13 +22,13 @@ use Rattle.table_entries.proofs.LabelSums.{zeros}
 use Rattle.cache_model.specs.Bodies.{Template, size, sumTemplates, expired}
 use Rattle.cache_model.specs.Removal.{evictions}
 use Rattle.pending_flows.specs.View.{templatesAt}
-use Rattle.pending_flows.proofs.Templates.{length-templates}
+use Rattle.pending_flows.proofs.Templates.{length-templates, live-bodies}
 use Rattle.pending_flows.proofs.Questions.{first-records}
 use Rattle.table_view.proofs.Tied.{Tied, words-tied}
 use Rattle.table_view.proofs.Swept.{Within, placed-within}
 use Rattle.table_view.proofs.Removed.{placed-short}
 use Rattle.table_view.proofs.Totals.{lens-total}
-use Rattle.pending_offer.specs.Plan.{liveTest}
+use Rattle.pending_offer.specs.Plan.{liveTest, LiveRead}
 use Rattle.pending_offer.proofs.PlanReads.{Sized, Counted}
 use Rattle.pending_offer.proofs.PlanSums.{sizes-summed, live-summed}
 
@@ -95,6 +95,15 @@ module _ (w b : List ℕ) (ok : wellFormed w (length b) ≡ true) where
       all-map (λ r. r .label < 1024) _
       (λ r s. live-summed b (r .label) s es within short (limitsOf w .ttl) clock (omega (arith, entries-few))) held
       labels-small
+
+  pub held-read : (clock : ℕ) → LiveRead (limitsOf w .ttl) clock held es
+  held-read clock = record {
+    counts = all-front (λ r. r .count ≡ tally (r .label) es) held (tableOf w .handed) (rows .counts-right);
+    live = all-map (λ r. r .label < 1024) _
+        (λ r s. live-bodies b (limitsOf w .ttl) clock (r .label) es
+        ∙ sym (live-summed b (r .label) s es within short (limitsOf w .ttl) clock (omega (arith, entries-few)))) held
+        labels-small;
+  }
 
   pub total-held : totalWord w ≡ sumTemplates size (templatesAt b es held)
   total-held =

@@ -1,5 +1,5 @@
 -- The plan that the code makes is the model's. Assumes nothing.
-use mathlib.Core.Path.{_≡_, refl, sym, ap, _∙_}
+use mathlib.Core.Path.{_≡_, refl, sym, ap, subst, _∙_}
 use mathlib.Core.Logic.{_≢_}
 use mathlib.Core.Bool.{Bool, true, false, not, _&&_, _||_, cond}
 use mathlib.Core.List.{List, [], _∷_, _++_}
@@ -9,39 +9,43 @@ use lib.Dec.{eqb, leb, ltb}
 use lib.ListN.{length, getD, take, drop}
 use borrow.Author.Tests.{leb-true}
 use Rattle.config.specs.declared.PendingFlowsConfig.{PendingFlowsConfig}
+use Rattle.config.specs.Age.{expiredAt}
 use Rattle.config.proofs.Tests.{and-right}
 use Rattle.config.proofs.Lists.{All, all-map, all-back}
 use Rattle.table.specs.declared.Entry.{Entry}
 use Rattle.table.specs.declared.TemplateRecord.{TemplateRecord}
-use Rattle.table.specs.Layout.{limitsOf}
-use Rattle.table.specs.Table.{tableOf, index}
+use Rattle.table.specs.Layout.{limitsOf, chanceCount}
+use Rattle.table.specs.Table.{tableOf, index, recordsFrom}
 use Rattle.table.specs.WellFormed.{wellFormed}
-use Rattle.table.specs.Reads.{labelOf, labelOrNone}
+use Rattle.table.specs.Reads.{labelOf, labelOrNone, countOf}
 use Rattle.table.proofs.Facts.{differ-front, differ-across, Differ}
 use Rattle.table.proofs.FoundLabels.{found-alone}
 use Rattle.table_entries.specs.declared.StayTest.{StayTest}
 use Rattle.table_entries.specs.Sums.{summed}
 use Rattle.table_entries.proofs.LabelSums.{zeros}
-use Rattle.table_records.specs.Choose.{skipAll, skipping, liveRecords, firstLive}
+use Rattle.table_records.specs.Choose.{skipAll, setEach, skipping, liveRecords, firstLive}
 use Rattle.cache_model.specs.Bodies.{Body, Template, size, keep, bodiesOf, without, expired}
 use Rattle.cache_model.specs.Removal.{evictions, keptOf}
 use Rattle.cache_model.specs.Offer.{accepted, refused}
 use Rattle.cache_model.proofs.Thinning.{hasId, firstId}
 use Rattle.cache_model.proofs.Plans.{Plan, planOf, plan, thinBy, thin}
 use Rattle.pending_flows.specs.View.{bodiesAt, templatesAt}
-use Rattle.table_view.proofs.Tied.{Tied}
+use Rattle.table_view.proofs.Tied.{Tied, entries-small}
 use Rattle.table_view.proofs.Swept.{bodyStays}
 use Rattle.table_view.proofs.Closed.{templates-take, templates-drop}
+use Rattle.table_view.proofs.AllStay.{none-skipped}
 use Rattle.pending_offer.specs.declared.plan.OfferPlan.{OfferPlan}
 use Rattle.pending_offer.specs.declared.plan.Decision.{Decision}
-use Rattle.pending_offer.specs.Plan.{liveTest, liveAt, Decides, planTest, Plans}
+use Rattle.pending_offer.specs.Plan.{liveTest, liveAt, Decides, NothingGoes, planTest}
+use Rattle.pending_offer.specs.Plan.{KeepsAll, Plans}
 use Rattle.pending_offer.proofs.PlanReads.{Counted, here-read, others-read, alive-read, first-read}
 use Rattle.pending_offer.proofs.PlanLabels.{all-take, all-drop, Alike}
 use Rattle.pending_offer.proofs.PlanLabels.{alike, has-alike}
 use Rattle.pending_offer.proofs.PlanSums.{keep-unaged, all-skipped}
+use Rattle.pending_offer.proofs.PlanLive.{label-fresh, all-stay}
 use Rattle.pending_offer.proofs.PlanSkips.{skipped, skipped-long, held-skipped, all-handed-skipped}
 use Rattle.pending_offer.proofs.PlanTables.{rows, labels-small, within, short, entries-few, some-templates}
-use Rattle.pending_offer.proofs.PlanTables.{held-counted}
+use Rattle.pending_offer.proofs.PlanTables.{held-counted, held-read, handed-are}
 
 cond-and : {A : Type 0} (s t : Bool) (x y : A) → cond (s && t) x y ≡ cond s (cond t x y) y
 cond-and true t x y = refl
@@ -161,9 +165,10 @@ module _ (w b : List ℕ) (id len clock : ℕ) where
             first-read b es (λ x. not (old x)) live (λ k j. eqb (u .label) k ≡ eqb (u .key) j) stay stay-counted a
             (omega (arith, some-templates w b ok))
 
-    module _ (label : ℕ) (labelled : label ≡ labelOrNone (labelOf id held)) where
+    module _ (label : ℕ) (labelled : label ≡ labelOrNone (labelOf id held)) (v : Bool)
+        (certain : v ≡ true → NothingGoes n (chanceCount w) d) where
       abbrev made : OfferPlan
-      made = record { full = d .full; label = label; all = d .all }
+      made = record { full = d .full; label = label; all = d .all; none = v }
 
       abbrev leaving : List TemplateRecord
       leaving = take n held
@@ -234,6 +239,25 @@ module _ (w b : List ℕ) (id len clock : ℕ) where
             each us (s .1) (a .1) (o .1) (m .1),
           )
 
+      -- where nothing goes, nothing is skipped
+      skips-none : NothingGoes n (chanceCount w) d → skip′ ≡ zeros
+      unfolding setEach recordsFrom
+      skips-none none =
+          decided .skips ∙ rw (none .one-id, none .evicts-none, ← handed-are w b ok, none .hands-none)
+
+      all-kept : KeepsAll w clock skip′ made
+      all-kept e =
+          let none = certain e in
+          let q : StayTest = planTest l clock made in
+          let tied = rows w b ok in
+          let small = entries-small (held ++ tableOf w .handed) es (tied .labels-small) (tied .labels-known) in
+          let counts : liveAt live (labelOf id held) ≡ countOf id held =
+          rw (none .evicts-none) at (decided .none-expired (none .none-expired)) in
+          let fresh =
+          subst (λ (k : ℕ). All (λ x. eqb k (x .label) && expiredAt (l .ttl) clock (x .clock) ≡ false) es)
+          (sym labelled) (label-fresh (held-read w b ok clock) id small counts) in
+          rw (skips-none none) (none-skipped q es small (all-stay q es (none .one-id) fresh (short w b ok)))
+
       pub plan-made : Plans w b id len clock skip′ made
       plan-made =
           let handed = tableOf w .handed in
@@ -246,4 +270,5 @@ module _ (w b : List ℕ) (id len clock : ℕ) where
             ends-chance = rw (decided .skips) (all-handed-skipped leaving handed goes first
                 (all-back (λ u. u .label < 1024) held handed (rows w b ok .labels-small)));
             long = rw (decided .skips) (skipped-long leaving handed goes first);
+            keeps-all = all-kept;
           }

@@ -11,13 +11,16 @@ use Rattle.config.specs.declared.PendingFlowsConfig.{PendingFlowsConfig}
 use Rattle.config.proofs.Lists.{All}
 use Rattle.table.specs.declared.Entry.{Entry}
 use Rattle.table.specs.declared.TemplateRecord.{TemplateRecord}
+use Rattle.table.specs.declared.RecordFound.{RecordFound}
+use Rattle.table.specs.declared.RecordFound.the-variants as Record
 use Rattle.table.specs.declared.LabelFound.{LabelFound}
 use Rattle.table.specs.declared.LabelFound.the-variants as Label
 use Rattle.table.specs.Layout.{limitsOf}
-use Rattle.table.specs.Table.{tableOf}
-use Rattle.table.specs.Reads.{labelOf, labelOrNone}
+use Rattle.table.specs.Table.{tableOf, tally}
+use Rattle.table.specs.Reads.{labelIn, countIn, labelOf, labelOrNone, countOf, liveCount}
 use Rattle.table_entries.specs.declared.StayTest.{StayTest}
 use Rattle.table_entries.specs.Sums.{summed}
+use Rattle.table_entries.specs.Sweep.{swept}
 use Rattle.table_records.specs.Choose.{skipAll, liveRecords, firstLive}
 use Rattle.cache_model.specs.Bodies.{Body, size, expired, keep}
 use Rattle.cache_model.specs.Offer.{accepted, refused}
@@ -41,7 +44,25 @@ liveTest ttl clock = record {
 abbrev pub liveSums : Ttl → ℕ → List Entry → List ℕ
 liveSums ttl clock es = summed (liveTest ttl clock) false (replicate 1024 0) es
 
--- how many live bodies it has, where `live` has those of each label
+-- how many of these entries are live bodies of a record that was found
+abbrev pub liveIn : Ttl → ℕ → List Entry → RecordFound → ℕ
+liveIn ttl clock es (Record.At r) = liveCount ttl clock (r .label) es
+liveIn ttl clock es Record.Nothing = 0
+
+-- what holds of it, as that its count is the number of entries with its label
+abbrev pub FoundHas : (TemplateRecord → Type 0) → RecordFound → Type 0
+FoundHas P (Record.At r) = P r
+FoundHas P Record.Nothing = Unit {0}
+
+abbrev pub CountRight : List Entry → RecordFound → Type 0
+CountRight es x = FoundHas (λ r. r .count ≡ tally (r .label) es) x
+
+-- The records' counts are right, and the live bodies of each are few enough to be summed.
+pub record LiveRead (ttl : Ttl) (clock : ℕ) (rs : List TemplateRecord) (es : List Entry) : Type 0 where
+  pub counts : All (λ r. r .count ≡ tally (r .label) es) rs
+  pub live : All (λ r. liveCount ttl clock (r .label) es ≡ getD (liveSums ttl clock es) (r .label) 0) rs
+
+-- how many live bodies a label has, where `live` has those of each label
 abbrev pub liveAt : List ℕ → LabelFound → ℕ
 liveAt live (Label.At k) = getD live k 0
 liveAt live Label.Nothing = 0
@@ -50,6 +71,11 @@ liveAt live Label.Nothing = 0
 abbrev pub othersFill : LabelFound → ℕ → ℕ → Bool
 othersFill (Label.At k) n most = ltb most n
 othersFill Label.Nothing n most = leb most n
+
+-- the least recent template with live bodies is skipped too, where those templates are as many as there may be
+abbrev pub skippingFirst : ℕ → List ℕ → List TemplateRecord → List ℕ → List ℕ
+skippingFirst most live rs skip =
+    cond (leb most (liveRecords live rs)) (set skip (firstLive live rs) skipAll) skip
 
 -- The decision on the records that step 2 leaves, where `live` has the live bodies of each label.
 pub record Decides (l : PendingFlowsConfig) (id : ℕ) (live : List ℕ) (rs : List TemplateRecord) (skip skip′ : List ℕ)
@@ -60,6 +86,14 @@ pub record Decides (l : PendingFlowsConfig) (id : ℕ) (live : List ℕ) (rs : L
       othersFill (labelOf id rs) (length rs) (l .«max_pending_flows»)
   pub skips : skip′ ≡ cond (r .all && leb (l .«max_pending_flows») (liveRecords live rs))
       (set skip (firstLive live rs) skipAll) skip
+  pub none-expired : r .live ≡ true → liveAt live (labelOf id rs) ≡ countOf id rs
+
+-- no template goes for its bytes, nothing is handed out, only the id's bodies may be expired, and none of them is
+pub record NothingGoes (evicted chance : ℕ) (d : Decision) : Type 0 where
+  pub evicts-none : evicted ≡ 0
+  pub hands-none : chance ≡ 0
+  pub one-id : d .all ≡ false
+  pub none-expired : d .live ≡ true
 
 -- which bodies stay by themselves
 abbrev pub planTest : PendingFlowsConfig → ℕ → OfferPlan → StayTest
@@ -70,6 +104,11 @@ planTest l clock r = record {
   label = r .label;
   «max_size» = 18446744073709551615;
 }
+
+-- where the plan says that nothing goes, the sweep keeps every entry
+abbrev pub KeepsAll : List ℕ → ℕ → List ℕ → OfferPlan → Type 0
+KeepsAll w clock skip r =
+    r .none ≡ true → swept (planTest (limitsOf w) clock r) skip (tableOf w .entries) ≡ tableOf w .entries
 
 -- The plan is the model's for a body of this length: the verdict, and what is left of each template's bodies.
 -- Nothing of what is handed out stays.
@@ -85,3 +124,4 @@ pub record Plans (w b : List ℕ) (id len clock : ℕ) (skip′ : List ℕ) (r :
       (bodiesAt b (u .label) (tableOf w .entries))) (tableOf w .held)
   pub ends-chance : All (λ u. getD skip′ (u .label) 0 ≡ skipAll) (tableOf w .handed)
   pub long : length skip′ ≡ 1024
+  pub keeps-all : KeepsAll w clock skip′ r

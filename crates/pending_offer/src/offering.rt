@@ -12,7 +12,7 @@ ghost use Rattle.pending_flows.specs.Header.{figuresAt};
 ghost use Rattle.pending_flows.specs.View.{areasOf, cacheOf};
 ghost use Rattle.pending_calls.specs.Promises.{Does};
 ghost use Rattle.pending_calls.specs.Removal.{Removes};
-ghost use Rattle.pending_offer.specs.Plan.{planTest, Plans};
+ghost use Rattle.pending_offer.specs.Plan.{planTest, KeepsAll, Plans};
 ghost use Rattle.pending_offer.specs.Promises.{bodyOf, Offers};
 ghost use Rattle.pending_offer.specs.Settle.{DoesOffer};
 use super::plan::OfferPlan;
@@ -25,6 +25,7 @@ use super::storing::choose_label;
 use config::PendingFlowsConfig;
 use pending_calls::Removed;
 use pending_calls::remove;
+use pending_calls::remove_none;
 use pending_flows::HeaderFigures;
 use pending_flows::figures_at;
 use table::LABELS;
@@ -76,12 +77,15 @@ fn remove_planned(
 ) -> Removed
     requires { ⌜ (wellFormed (now words) (length (now bytes)) ≡ true) × (limits ≡ limitsOf (now words)) ⌝ }
     requires { ⌜ (figures ≡ figuresAt (now words)) × (length (now skip) ≡ 1024) ⌝ }
-    requires { ⌜ now kept ≡ replicate 1024 0 ⌝ }
+    requires { ⌜ (now kept ≡ replicate 1024 0) × KeepsAll (now words) clock (now skip) plan ⌝ }
     ensures { λ r.
         ⌜ Removes (planTest (limitsOf (now (words .entry))) clock plan) (recordsAt (limitsOf (now (words .entry))))
         (heldCount (now (words .entry)) + chanceCount (now (words .entry))) (entryCount (now (words .entry))) apart
         (now (skip .entry)) (replicate 1024 0) (now (words .entry)) (now (words .exit)) (now (kept .exit)) r ⌝ }
 {
+    if plan.none {
+        return remove_none(words, bytes, limits, figures, apart, kept);
+    }
     let records = (figures.templates + figures.chance) as usize;
     let test = stay_test(limits, clock, plan);
     remove(

@@ -1,27 +1,29 @@
 // What an offer decides before anything is written: steps 2 to 5.
 ghost use mathlib.Core.Path.{_≡_};
-ghost use mathlib.Core.Bool.{true, cond};
+ghost use mathlib.Core.Bool.{true};
 ghost use Prim.Native.Nat.{_+_, _*_, _≤_};
-ghost use lib.Dec.{leb};
-ghost use lib.ListN.{length, set, replicate};
+ghost use lib.ListN.{length, replicate};
 ghost use Rattle.config.specs.Limits.{recordWords, entryWords};
 ghost use Rattle.table.specs.Layout.{limitsOf, entriesAt};
 ghost use Rattle.table.specs.Table.{tableOf, entriesFrom, recordsFrom};
-ghost use Rattle.table.specs.Reads.{labelOf};
+ghost use Rattle.table.specs.Reads.{labelIn, labelOf};
 ghost use Rattle.table.specs.WellFormed.{wellFormed};
-ghost use Rattle.table_records.specs.Choose.{skipAll, liveRecords, firstLive};
 ghost use Rattle.cache_model.specs.Removal.{evictions};
 ghost use Rattle.pending_flows.specs.Header.{figuresAt};
 ghost use Rattle.pending_flows.specs.View.{cacheOf};
-ghost use Rattle.pending_offer.specs.Plan.{liveTest, liveSums, liveAt, othersFill, Decides, Plans};
+ghost use Rattle.pending_offer.specs.Plan.{liveTest, liveSums, liveIn, CountRight};
+ghost use Rattle.pending_offer.specs.Plan.{LiveRead, othersFill, skippingFirst, Decides, NothingGoes, Plans};
 use config::PendingFlowsConfig;
 use config::RECORD_WORDS;
 use config::Ttl;
 use pending_flows::HeaderFigures;
 use table::LABELS;
 use table::LabelFound;
+use table::RecordFound;
+use table::count_in;
 use table::label_for;
-use table::label_of;
+use table::live_count;
+use table::record_of;
 use table::records_at;
 use table_entries::StayTest;
 use table_entries::sums_by_label;
@@ -30,23 +32,24 @@ use table_records::first_live;
 use table_records::live_records;
 use table_records::set_sum;
 use table_records::skip_records;
-use table_records::sum_of;
 
 // More than any template has.
 const SKIP_ALL: u32 = 262144;
 
-// What an offer decides: whether the template is full (20), the id's label (1,024 where the id is not held), and
-// whether expired bodies of all ids go or only the id's.
+// What an offer decides: whether the template is full (20), the id's label (1,024 where the id is not held), whether
+// expired bodies of all ids go or only the id's, and whether it is certain that nothing goes.
 pub struct OfferPlan {
     pub full: bool,
     pub label: u64,
     pub all: bool,
+    pub none: bool,
 }
 
-// What is decided by the templates that step 2 leaves.
+// What is decided by the templates that step 2 leaves; live: none of the id's bodies is expired.
 struct Decision {
     full: bool,
     all: bool,
+    live: bool,
 }
 
 // The test by which bodies that are not expired stay.
@@ -62,23 +65,28 @@ fn live_test(ttl: Ttl, clock: u64) -> StayTest
     }
 }
 
-// How many live bodies the label that was found has.
-fn live_at(live: &[u32; LABELS], found: LabelFound) -> u32
-    ensures { λ r. ⌜ r ≡ liveAt (now (live .entry)) found ⌝ }
+// How many live bodies the record that was found has. With no time to live none is expired, and its count says how many.
+fn live_in(words: &[u64], entries: usize, ttl: Ttl, clock: u64, found: RecordFound) -> usize
+    requires { ⌜ entriesAt + entryWords * entries ≤ length (now words) ⌝ }
+    requires { ⌜ CountRight (entriesFrom (now words) entriesAt entries) found ⌝ }
+    ensures { λ r. ⌜ r ≡ liveIn ttl clock (entriesFrom (now (words .entry)) entriesAt entries) found ⌝ }
 {
-    match found {
-        LabelFound::At(label) => sum_of(live, label),
-        LabelFound::Nothing => 0,
-    }
+    let RecordFound::At(template) = found else {
+        return 0;
+    };
+    let Ttl::After(_) = ttl else {
+        return template.count as usize;
+    };
+    live_count(words, entries, template.label, ttl, clock)
 }
 
 // Whether the records but the one that was found are as many as there may be.
-fn others_fill(found: LabelFound, records: usize, most: usize) -> bool
-    ensures { λ r. ⌜ r ≡ othersFill found records most ⌝ }
+fn others_fill(found: RecordFound, records: usize, most: usize) -> bool
+    ensures { λ r. ⌜ r ≡ othersFill (labelIn found) records most ⌝ }
 {
     match found {
-        LabelFound::At(_) => most < records,
-        LabelFound::Nothing => most <= records,
+        RecordFound::At(_) => most < records,
+        RecordFound::Nothing => most <= records,
     }
 }
 
@@ -131,9 +139,8 @@ fn skip_first(
 )
     requires { ⌜ from + recordWords * records ≤ length (now words) ⌝ }
     ensures { λ _.
-        ⌜ now (skip .exit) ≡ cond (leb most (liveRecords (now (live .entry)) (recordsFrom (now (words .entry)) from
-        records))) (set (now (skip .entry)) (firstLive (now (live .entry)) (recordsFrom (now (words .entry)) from
-        records)) skipAll) (now (skip .entry)) ⌝ }
+        ⌜ now (skip .exit) ≡ skippingFirst most (now (live .entry)) (recordsFrom (now (words .entry)) from records)
+        (now (skip .entry)) ⌝ }
 {
     if live_records(words, from, records, live) < most {
         return;
@@ -141,43 +148,30 @@ fn skip_first(
     set_sum(skip, first_live(words, from, records, live), SKIP_ALL);
 }
 
-// Steps 3 to 5, by the records that step 2 leaves and the live bodies of each label.
-fn decide_by(
+// The same by the entries: their live bodies are summed for it.
+fn skip_oldest(
     words: &[u64],
     limits: PendingFlowsConfig,
+    entries: usize,
     from: usize,
     records: usize,
-    id: u64,
-    live: &[u32; LABELS],
+    clock: u64,
     skip: &mut [u32; LABELS],
-) -> Decision
+)
+    requires { ⌜ entriesAt + entryWords * entries ≤ length (now words) ⌝ }
     requires { ⌜ from + recordWords * records ≤ length (now words) ⌝ }
-    ensures { λ r.
-        ⌜ Decides limits id (now (live .entry)) (recordsFrom (now (words .entry)) from records) (now (skip .entry))
-        (now (skip .exit)) r ⌝ }
+    ensures { λ _.
+        ⌜ now (skip .exit) ≡ skippingFirst (limits .«max_pending_flows») (liveSums (limits .ttl) clock (entriesFrom (now
+        (words .entry)) entriesAt entries)) (recordsFrom (now (words .entry)) from records) (now (skip .entry)) ⌝ }
 {
-    let found = label_of(words, from, records, id);
-    let here = live_at(live, found) as usize;
-    if 0 < here {
-        return Decision {
-            full: limits.max_entries_per_template <= here,
-            all: false,
-        };
-    }
-    if others_fill(found, records, limits.max_pending_flows) {
-        skip_first(words, from, records, limits.max_pending_flows, live, skip);
-        return Decision {
-            full: false,
-            all: true,
-        };
-    }
-    Decision {
-        full: false,
-        all: false,
-    }
+    let ttl = limits.ttl;
+    let mut live = [0u32; LABELS];
+    sums_by_label(words, entries, live_test(ttl, clock), false, &mut live);
+    skip_first(words, from, records, limits.max_pending_flows, &live, skip);
 }
 
-// Steps 3 to 5, by the records that step 2 leaves and the entries.
+// Steps 3 to 5, by the records that step 2 leaves and the entries. The live bodies of other ids are looked at only
+// where a new id finds no room.
 fn decide(
     words: &[u64],
     limits: PendingFlowsConfig,
@@ -190,14 +184,53 @@ fn decide(
 ) -> Decision
     requires { ⌜ entriesAt + entryWords * entries ≤ length (now words) ⌝ }
     requires { ⌜ from + recordWords * records ≤ length (now words) ⌝ }
+    requires { ⌜ LiveRead (limits .ttl) clock (recordsFrom (now words) from records) (entriesFrom (now words) entriesAt
+        entries) ⌝ }
     ensures { λ r.
         ⌜ Decides limits id (liveSums (limits .ttl) clock (entriesFrom (now (words .entry)) entriesAt entries))
         (recordsFrom (now (words .entry)) from records) (now (skip .entry)) (now (skip .exit)) r ⌝ }
 {
     let ttl = limits.ttl;
-    let mut live = [0u32; LABELS];
-    sums_by_label(words, entries, live_test(ttl, clock), false, &mut live);
-    decide_by(words, limits, from, records, id, &live, skip)
+    let found = record_of(words, from, records, id);
+    let here = live_in(words, entries, ttl, clock, found);
+    let live = (here as u64) == count_in(found);
+    if 0 < here {
+        return Decision {
+            full: limits.max_entries_per_template <= here,
+            all: false,
+            live,
+        };
+    }
+    if others_fill(found, records, limits.max_pending_flows) {
+        skip_oldest(words, limits, entries, from, records, clock, skip);
+        return Decision {
+            full: false,
+            all: true,
+            live,
+        };
+    }
+    Decision {
+        full: false,
+        all: false,
+        live,
+    }
+}
+
+// Whether it is certain that no body goes: no template is evicted, nothing is handed out, only the id's bodies may be
+// expired, and none of them is.
+fn nothing_goes(evicted: usize, chance: u64, decision: Decision) -> bool
+    ensures { λ r. ⌜ (r ≡ true → NothingGoes evicted chance decision) ⌝ }
+{
+    if 0 < evicted {
+        return false;
+    }
+    if 0 < chance {
+        return false;
+    }
+    if decision.all {
+        return false;
+    }
+    decision.live
 }
 
 // What an offer of a body of this length decides. Sets in `skip` how many of each label's oldest bodies go.
@@ -242,5 +275,6 @@ pub fn plan_offer(
         full: decision.full,
         label: label_for(words, from, held, id),
         all: decision.all,
+        none: nothing_goes(evicted, figures.chance, decision),
     }
 }

@@ -19,7 +19,7 @@ use Rattle.table.specs.declared.LabelFound.the-variants as Label
 use Rattle.table.specs.declared.EntryFound.the-variants as Found
 use Rattle.table.specs.Layout.{entriesAt}
 use Rattle.table.specs.Table.{entryAt, recordAt, entriesFrom, recordsFrom}
-use Rattle.table.specs.Reads.{recordOf, labelOf, countOf, isLive, liveCount, nthOf}
+use Rattle.table.specs.Reads.{recordOf, labelIn, countIn, labelOf, countOf, isLive, liveCount, nthOf}
 use Rattle.table.proofs.Words.{records-none, records-first, entries-none, entries-first}
 
 -- Looking for a key: the record that is found is among the `left` ones from word p on.
@@ -51,14 +51,6 @@ module _ {w : List ℕ} {key from records p left : ℕ} (inv : KeySought w key f
     }
 
 -- What is read off the record that was found.
-abbrev labelIn : RecordFound → LabelFound
-labelIn (Record.At r) = Label.At (r .label)
-labelIn Record.Nothing = Label.Nothing
-
-abbrev countIn : RecordFound → ℕ
-countIn (Record.At r) = r .count
-countIn Record.Nothing = 0
-
 label-in : (key : ℕ) (rs : List TemplateRecord) → labelIn (recordOf key rs) ≡ labelOf key rs
 unfolding recordOf labelOf
 label-in key [] = refl
@@ -85,6 +77,9 @@ module _ (key : ℕ) (rs : List TemplateRecord) {x : RecordFound} (searched : x 
 
   pub no-label-told : x ≡ Record.Nothing → Label.Nothing ≡ labelOf key rs
   no-label-told e = sym (ap labelIn e) ∙ ap labelIn searched ∙ label-in key rs
+
+  pub count-read : {n : ℕ} → n ≡ countIn x → n ≡ countOf key rs
+  count-read e = e ∙ ap countIn searched ∙ count-in key rs
 
   pub count-told : {r : TemplateRecord} → x ≡ Record.At r → r .count ≡ countOf key rs
   count-told e = sym (ap countIn e) ∙ ap countIn searched ∙ count-in key rs

@@ -19,7 +19,16 @@ unfoldable pub recordOf : ℕ → List TemplateRecord → RecordFound
 recordOf key [] = Record.Nothing
 recordOf key (r ∷ rs) = cond (eqb key (r .key)) (Record.At r) (recordOf key rs)
 
--- its label
+-- of a record that was found: its label, and how many bodies it counts
+abbrev pub labelIn : RecordFound → LabelFound
+labelIn (Record.At r) = Label.At (r .label)
+labelIn Record.Nothing = Label.Nothing
+
+abbrev pub countIn : RecordFound → ℕ
+countIn (Record.At r) = r .count
+countIn Record.Nothing = 0
+
+-- the label of the record with a key
 unfoldable pub labelOf : ℕ → List TemplateRecord → LabelFound
 labelOf key [] = Label.Nothing
 labelOf key (r ∷ rs) = cond (eqb key (r .key)) (Label.At (r .label)) (labelOf key rs)
@@ -29,7 +38,7 @@ abbrev pub labelOrNone : LabelFound → ℕ
 labelOrNone (Label.At k) = k
 labelOrNone Label.Nothing = 1024
 
--- how many bodies it counts; 0 where there is none
+-- how many bodies the record with a key counts; 0 where there is none
 unfoldable pub countOf : ℕ → List TemplateRecord → ℕ
 countOf key [] = 0
 countOf key (r ∷ rs) = cond (eqb key (r .key)) (r .count) (countOf key rs)

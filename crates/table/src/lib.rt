@@ -14,6 +14,7 @@ pub use layout::entry_at;
 pub use layout::limits_at;
 pub use layout::record_at;
 pub use layout::records_at;
+pub use reads::count_in;
 pub use reads::count_of;
 pub use reads::label_for;
 pub use reads::label_of;

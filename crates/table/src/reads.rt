@@ -5,7 +5,7 @@ ghost use lib.ListN.{length};
 ghost use Rattle.config.specs.Limits.{headerWords, recordWords, entryWords};
 ghost use Rattle.table.specs.Layout.{entriesAt};
 ghost use Rattle.table.specs.Table.{entriesFrom, recordsFrom};
-ghost use Rattle.table.specs.Reads.{recordOf, labelOf, labelOrNone, countOf, isLive, liveCount, nthOf};
+ghost use Rattle.table.specs.Reads.{recordOf, countIn, labelOf, labelOrNone, countOf, isLive, liveCount, nthOf};
 use super::Entry;
 use super::EntryFound;
 use super::LABELS;
@@ -49,16 +49,22 @@ pub fn label_of(words: &[u64], from: usize, records: usize, key: u64) -> LabelFo
     }
 }
 
+// How many bodies the record that was found counts; 0 where there is none.
+pub fn count_in(found: RecordFound) -> u64
+    ensures { λ r. ⌜ r ≡ countIn found ⌝ }
+{
+    match found {
+        RecordFound::At(template) => template.count,
+        RecordFound::Nothing => 0,
+    }
+}
+
 // How many bodies the record with this key counts; 0 where none has the key.
 pub fn count_of(words: &[u64], from: usize, records: usize, key: u64) -> u64
     requires { ⌜ from + recordWords * records ≤ length (now words) ⌝ }
     ensures { λ r. ⌜ r ≡ countOf key (recordsFrom (now (words .entry)) from records) ⌝ }
 {
-    let found = record_of(words, from, records, key);
-    match found {
-        RecordFound::At(template) => template.count,
-        RecordFound::Nothing => 0,
-    }
+    count_in(record_of(words, from, records, key))
 }
 
 // The label of the record with this key; where there is none, what is no label.

@@ -49,7 +49,7 @@ held-bodies-requires c κs = search needs
 remove-planned-requires : tie.Need-remove-planned-requires
 remove-planned-requires c κs =
     let pre = begins (c .before .before .before .before) .pre in
-    (pre .0, ((pre .1 .0 .0, pre .1 .1 .0 .long), refl))
+    (pre .0, ((pre .1 .0 .0, pre .1 .1 .0 .long), (refl, pre .1 .1 .0 .keeps-all)))
 
 choose-label-requires : tie.Need-choose-label-requires
 choose-label-requires c κs = search needs

@@ -1,8 +1,18 @@
 use borrow.Author.Needs.{needs}
 use Rattle.pending_flows.proofs.Questions.{bodies-few}
-use Rattle.pending_offer.proofs.Removing.{zeros-long, records-few, records-fit, rows-within, removed-planned}
+use Rattle.pending_calls.proofs.NoneRemoved.{records-few, records-fit, entries-below, records-inside}
+use Rattle.pending_offer.proofs.Removing.{zeros-long, none-planned, removed-planned}
 use Rattle.pending_offer.proofs.offering.remove_planned.Statement.{statement}
 use Rattle.pending_offer.proofs.offering.remove_planned.Tie as tie
+
+remove-none-requires : tie.Need-remove-none-requires
+remove-none-requires c κs = search needs
+
+same-length : tie.Need-same-length
+same-length c = search needs
+
+returns : tie.Need-returns
+returns c = search (none-planned, needs)
 
 add-records : tie.Need-add-records
 add-records c = record { fits = search (records-fit, needs) }
@@ -14,28 +24,27 @@ records-at-requires : tie.Need-records-at-requires
 records-at-requires c κs = search (bodies-few, needs)
 
 remove-requires : tie.Need-remove-requires
-remove-requires c κs =
-    let at : tie.After-records-at = c .before .before in
-    let start : tie.Start = at .before .before .before .before .before .before in
-    let ok = start .pre .0 .0 in
-    let figures = start .pre .1 .0 .0 in (
-      rows-within _ _ ok _ figures _ (start .pre .0 .1) _ (at .records-at .ensures),
-      (records-few _ _ ok _ figures, (start .pre .1 .0 .1, zeros-long _ (start .pre .1 .1))),
-    )
+remove-requires c κs = (
+  (search (entries-below, needs), search (records-inside, needs)),
+  (search (records-few, needs), (search needs, search (zeros-long, needs))),
+)
 
-same-length : tie.Need-same-length
-same-length c = search needs
+same-length-2 : tie.Need-same-length-2
+same-length-2 c = search needs
 
-returns : tie.Need-returns
-returns c = search (removed-planned, needs)
+returns-2 : tie.Need-returns-2
+returns-2 c = search (removed-planned, needs)
 
 pub remove-planned-spec : {M : Type 1} → statement M
 remove-planned-spec =
     tie.close
     (tie.spec
+    remove-none-requires
+    same-length
+    returns
     add-records
     stay-test-requires
     records-at-requires
     remove-requires
-    same-length
-    returns)
+    same-length-2
+    returns-2)

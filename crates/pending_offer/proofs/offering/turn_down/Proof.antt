@@ -35,7 +35,7 @@ held-bodies-requires c κs = search needs
 remove-planned-requires : tie.Need-remove-planned-requires
 remove-planned-requires c κs =
     let pre = begins (c .before .before .before) .pre in
-    (pre .0, ((pre .1 .0 .0, pre .1 .1 .0 .long), refl))
+    (pre .0, ((pre .1 .0 .0, pre .1 .1 .0 .long), (refl, pre .1 .1 .0 .keeps-all)))
 
 sub-drops : tie.Need-sub-drops
 sub-drops c =

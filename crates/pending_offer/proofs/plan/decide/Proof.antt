@@ -1,20 +1,42 @@
-use Rattle.pending_offer.proofs.PlanSteps.{sums-decided}
 use borrow.Author.Needs.{needs}
+use Rattle.pending_offer.proofs.PlanLive.{count-right}
+use Rattle.pending_offer.proofs.PlanSteps.{held-decided, new-decided, new-full-decided}
 use Rattle.pending_offer.proofs.plan.decide.Statement.{statement}
 use Rattle.pending_offer.proofs.plan.decide.Tie as tie
 
-live-test-requires : tie.Need-live-test-requires
-live-test-requires c κs = search needs
+record-of-requires : tie.Need-record-of-requires
+record-of-requires c κs = search needs
 
-sums-by-label-requires : tie.Need-sums-by-label-requires
-sums-by-label-requires c κs = search needs
+live-in-requires : tie.Need-live-in-requires
+live-in-requires c κs = (search needs, search (count-right, needs))
 
-decide-by-requires : tie.Need-decide-by-requires
-decide-by-requires c κs = search needs
+count-in-requires : tie.Need-count-in-requires
+count-in-requires c κs = search needs
 
 returns : tie.Need-returns
-returns c = search (sums-decided, needs)
+returns c = search (held-decided, needs)
+
+others-fill-requires : tie.Need-others-fill-requires
+others-fill-requires c κs = search needs
+
+skip-oldest-requires : tie.Need-skip-oldest-requires
+skip-oldest-requires c κs = search needs
+
+returns-2 : tie.Need-returns-2
+returns-2 c = search (new-full-decided, needs)
+
+returns-3 : tie.Need-returns-3
+returns-3 c = search (new-decided, needs)
 
 pub decide-spec : {M : Type 1} → statement M
 decide-spec =
-    tie.close (tie.spec live-test-requires sums-by-label-requires decide-by-requires returns)
+    tie.close
+    (tie.spec
+    record-of-requires
+    live-in-requires
+    count-in-requires
+    returns
+    others-fill-requires
+    skip-oldest-requires
+    returns-2
+    returns-3)

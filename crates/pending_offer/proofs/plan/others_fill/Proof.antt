@@ -1,4 +1,4 @@
-use Rattle.pending_offer.proofs.PlanSteps.{found-fills, none-fills}
+use Rattle.pending_offer.proofs.PlanLive.{found-fills, none-fills}
 use borrow.Author.Needs.{needs}
 use Rattle.pending_offer.proofs.plan.others_fill.Statement.{statement}
 use Rattle.pending_offer.proofs.plan.others_fill.Tie as tie

@@ -1,7 +1,7 @@
 use Rattle.pending_offer.proofs.PlanSteps.{entries-within, bodies-few, records-within}
 use Rattle.pending_offer.proofs.PlanOffers.{held-scaled, handed-start, handed-within, leaving-few}
 use Rattle.pending_offer.proofs.PlanOffers.{leaving-scaled}
-use Rattle.pending_offer.proofs.PlanOffers.{stay-start, leaving-within, stay-within, plan-done}
+use Rattle.pending_offer.proofs.PlanOffers.{stay-start, leaving-within, stay-within, live-read, plan-done}
 use borrow.Author.Needs.{needs}
 use Rattle.pending_offer.proofs.plan.plan_offer.Statement.{statement}
 use Rattle.pending_offer.proofs.plan.plan_offer.Tie as tie
@@ -34,10 +34,14 @@ skip-records-requires-2 : tie.Need-skip-records-requires-2
 skip-records-requires-2 c κs = search (handed-within, needs)
 
 decide-requires : tie.Need-decide-requires
-decide-requires c κs = search (entries-within, stay-within, needs)
+decide-requires c κs =
+    (search (entries-within, needs), (search (stay-within, needs), search (live-read, needs)))
 
 label-for-requires : tie.Need-label-for-requires
 label-for-requires c κs = search (records-within, needs)
+
+nothing-goes-requires : tie.Need-nothing-goes-requires
+nothing-goes-requires c κs = search needs
 
 returns : tie.Need-returns
 returns c = search (plan-done, needs)
@@ -57,4 +61,5 @@ plan-offer-spec =
     skip-records-requires-2
     decide-requires
     label-for-requires
+    nothing-goes-requires
     returns)
