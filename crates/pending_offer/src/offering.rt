@@ -144,6 +144,8 @@ fn accept(
         figures,
         1,
         drops,
+        drops,
+        body.len() as u64,
         left.records + 1,
         left.entries + 1,
     );
@@ -185,6 +187,8 @@ fn offer_body(words: &mut [u64], bytes: &mut [u8], id: u64, body: &[u8], clock: 
             figures,
             0,
             drops + 1,
+            drops,
+            0,
             left.records,
             left.entries,
         );

@@ -1,7 +1,8 @@
 use mathlib.Core.Path.{refl}
 use borrow.Author.Needs.{needs}
 use Rattle.pending_flows.proofs.Questions.{header-within}
-use Rattle.pending_offer.proofs.Refused.{Refusing, refused-settles, refused-fewer, drops-fit, refused-does}
+use Rattle.pending_offer.proofs.Refused.{Refusing, refused-settles, refused-fewer, refused-total, drops-fit}
+use Rattle.pending_offer.proofs.Refused.{refused-does}
 use Rattle.pending_offer.proofs.Offered.{size-within, cached-offer, full-offer}
 use Rattle.pending_offer.proofs.offering.offer_body.Statement.{statement}
 use Rattle.pending_offer.proofs.offering.offer_body.Tie as tie
@@ -79,7 +80,11 @@ add-settle c =
     record { fits = drops-fit (known left) (held left .held-bodies .ensures) }
 
 settle-requires : tie.Need-settle-requires
-settle-requires c κs = refused-settles (known (c .before .before .before))
+settle-requires c κs =
+    let left : tie.After-remove-planned = c .before .before .before in (
+      refused-settles (known left),
+      refused-total (known left) (held left .held-bodies .ensures) (figured (planned left) .figures-at .ensures),
+    )
 
 same-length : tie.Need-same-length
 same-length c = search needs
