@@ -12,7 +12,7 @@ use Rattle.table.specs.WellFormed.{wellFormed}
 use Rattle.table.proofs.Facts.{LegalWords, words-say}
 use Rattle.pending_flows.specs.declared.header.HeaderFigures.{HeaderFigures}
 use Rattle.pending_flows.specs.Header.{figuresAt}
-use Rattle.pending_calls.proofs.Removed.{few-templates, entries-below-records, records-within}
+use Rattle.pending_calls.proofs.Removed.{entries-below-records, records-within}
 
 -- the limits and figures that words hold, and where their records begin
 module _ (w : List ℕ) {l : PendingFlowsConfig} {f : HeaderFigures} {p : ℕ} (limits : l ≡ limitsOf w)
@@ -32,12 +32,7 @@ module _ (w : List ℕ) {l : PendingFlowsConfig} {f : HeaderFigures} {p : ℕ} (
     held-room =
         as-read (λ l f p. p + recordWords * f .templates ≤ length w) (omega (arith, records-within w n legal))
 
-    pub rows-room : (entriesAt + entryWords * f .entries ≤ p) ×
-        (p + recordWords * (f .templates + f .chance) ≤ length w)
-    rows-room =
-        as-read
-        (λ l f p. (entriesAt + entryWords * f .entries ≤ p) × (p + recordWords * (f .templates + f .chance) ≤ length w))
-        (entries-below-records w n legal, records-within w n legal)
-
-    pub records-few : f .templates + f .chance ≤ 1024
-    records-few = as-read (λ l f p. f .templates + f .chance ≤ 1024) (few-templates w n legal)
+    pub entries-room : entriesAt + entryWords * f .entries ≤ length w
+    entries-room =
+        as-read (λ l f p. entriesAt + entryWords * f .entries ≤ length w)
+        (omega (arith, entries-below-records w n legal, records-within w n legal))

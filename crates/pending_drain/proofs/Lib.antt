@@ -8,6 +8,7 @@ pub mod HandedRows
 pub mod HeldTotals
 pub mod Drained
 pub mod AsRead
+pub mod NoneTaken
 pub mod Drains
 pub mod RestoredRows
 pub mod Restored

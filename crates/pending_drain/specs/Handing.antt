@@ -7,9 +7,11 @@ use Prim.Native.Nat.{ℕ, _+_, _*_, _<_}
 use lib.ListN.{set, replicate}
 use Rattle.config.specs.declared.Ttl.{Ttl}
 use Rattle.config.specs.Limits.{recordWords}
+use Rattle.table.specs.declared.Entry.{Entry}
 use Rattle.table.specs.declared.TemplateRecord.{TemplateRecord}
 use Rattle.table.specs.Layout.{entriesAt}
-use Rattle.table.specs.Table.{entriesFrom, recordsFrom}
+use Rattle.table.specs.Table.{entriesFrom, recordsFrom, tally}
+use Rattle.table.specs.Reads.{liveCount}
 use Rattle.table_entries.specs.declared.StayTest.{StayTest}
 use Rattle.table_entries.specs.Sweep.{swept}
 use Rattle.table_records.specs.Add.{Adds}
@@ -39,6 +41,11 @@ TakesOut ttl clock label p f w w′ r =
     let skip = skipping zeros (recordsFrom w (p + recordWords * f .templates) (f .chance)) in
     Removes q p (f .templates + f .chance) (f .entries) label skip zeros w w′
     (set (counted zeros (swept q skip (entriesFrom w entriesAt (f .entries)))) label 0) r
+
+-- nothing is handed out already, and no body of the label is expired
+pub record NothingGoes (ttl : Ttl) (clock label chance : ℕ) (es : List Entry) : Type 0 where
+  pub hands-none : chance ≡ 0
+  pub all-live : liveCount ttl clock label es ≡ tally label es
 
 -- the record of what is handed out stands behind k held ones, where there is a body; chance: whether there is
 pub record HandsOut (p k : ℕ) (t : TemplateRecord) (w w′ : List ℕ) (chance : ℕ) : Type 0 where

@@ -4,28 +4,34 @@ ghost use mathlib.Core.Bool.{true};
 ghost use Prim.Native.Nat.{_+_, _*_, _-_, _≤_, _<_};
 ghost use lib.ListN.{length};
 ghost use Rattle.config.specs.Limits.{recordWords, entryWords};
-ghost use Rattle.table.specs.Layout.{entriesAt};
-ghost use Rattle.table.specs.Table.{tableOf, recordsFrom, indexFrom};
+ghost use Rattle.table.specs.Layout.{limitsOf, entriesAt, recordsAt};
+ghost use Rattle.table.specs.Table.{tableOf, entriesFrom, recordsFrom, indexFrom, tally};
+ghost use Rattle.table.specs.Reads.{labelOf, labelOrNone, countOf};
 ghost use Rattle.table.specs.WellFormed.{indexRises, wellFormed};
 ghost use Rattle.cache_model.specs.Cache.{count, raised};
 ghost use Rattle.cache_model.specs.Calls.{drained};
+ghost use Rattle.pending_flows.specs.Header.{figuresAt};
 ghost use Rattle.pending_flows.specs.View.{areasOf, cacheOf};
 ghost use Rattle.pending_calls.specs.Promises.{Does};
-ghost use Rattle.pending_drain.specs.Handing.{TakesOut, HandsOut};
+ghost use Rattle.pending_drain.specs.Handing.{NothingGoes, TakesOut, HandsOut};
 ghost use Rattle.pending_drain.specs.Promises.{Drains};
+use config::PendingFlowsConfig;
 use config::RECORD_WORDS;
 use config::Ttl;
 use pending_calls::Removed;
 use pending_calls::raised;
 use pending_calls::remove;
+use pending_calls::remove_none;
 use pending_flows::HeaderFigures;
 use pending_flows::figures_at;
 use pending_flows::handed_count;
 use pending_flows::write_header;
 use table::LABELS;
 use table::TemplateRecord;
+use table::count_of;
 use table::label_for;
 use table::limits_at;
+use table::live_count;
 use table::records_at;
 use table_entries::StayTest;
 use table_entries::held_bytes;
@@ -86,6 +92,61 @@ fn take_out(
     )
 }
 
+// Whether it is certain that no body goes: nothing is handed out, and no body of the label is expired. With no time to
+// live none is.
+fn nothing_goes(
+    words: &[u64],
+    from: usize,
+    figures: HeaderFigures,
+    ttl: Ttl,
+    clock: u64,
+    label: u64,
+    id: u64,
+) -> bool
+    requires { ⌜ (entriesAt + entryWords * figures .entries ≤ length (now words)) × (from + recordWords * figures
+        .templates ≤ length (now words)) ⌝ }
+    requires { ⌜ countOf id (recordsFrom (now words) from (figures .templates)) ≡ tally label (entriesFrom (now words)
+        entriesAt (figures .entries)) ⌝ }
+    ensures { λ r.
+        ⌜ (r ≡ true → NothingGoes ttl clock label (figures .chance) (entriesFrom (now (words .entry)) entriesAt
+        (figures .entries))) ⌝ }
+{
+    if 0 < figures.chance {
+        return false;
+    }
+    let Ttl::After(_) = ttl else {
+        return true;
+    };
+    let held = figures.templates as usize;
+    let bodies = count_of(words, from, held, id);
+    let live = live_count(words, figures.entries as usize, label, ttl, clock);
+    bodies == (live as u64)
+}
+
+// The same as `take_out`, but no entry is moved or summed where nothing goes.
+fn take_label(
+    words: &mut [u64],
+    bytes: &[u8],
+    limits: PendingFlowsConfig,
+    figures: HeaderFigures,
+    from: usize,
+    id: u64,
+    clock: u64,
+    label: u64,
+) -> Removed
+    requires { ⌜ (wellFormed (now words) (length (now bytes)) ≡ true) × (limits ≡ limitsOf (now words)) ⌝ }
+    requires { ⌜ (figures ≡ figuresAt (now words)) × (from ≡ recordsAt limits) ⌝ }
+    requires { ⌜ label ≡ labelOrNone (labelOf id (recordsFrom (now words) from (figures .templates))) ⌝ }
+    ensures { λ r. ⌜ TakesOut (limits .ttl) clock label from figures (now (words .entry)) (now (words .exit)) r ⌝ }
+{
+    let ttl = limits.ttl;
+    if nothing_goes(words, from, figures, ttl, clock, label, id) {
+        let mut kept = [0; LABELS];
+        return remove_none(words, bytes, limits, figures, label, &mut kept);
+    }
+    take_out(words, from, figures, ttl, clock, label)
+}
+
 // Adds the record of what is handed out behind the held ones, if there is a body; whether there is, as the header
 // says it.
 fn hand_out(words: &mut [u64], from: usize, records: usize, template: TemplateRecord) -> u64
@@ -113,8 +174,7 @@ fn drain_cache(words: &mut [u64], bytes: &[u8], id: u64, clock: u64) -> usize
     let handed = handed_count(words, bytes, limits);
     let from = records_at(limits);
     let label = label_for(words, from, figures.templates as usize, id);
-    let ttl = limits.ttl;
-    let removed = take_out(words, from, figures, ttl, clock, label);
+    let removed = take_label(words, bytes, limits, figures, from, id, clock, label);
     let template = TemplateRecord {
         key: id,
         label,

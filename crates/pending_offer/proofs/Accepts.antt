@@ -1,5 +1,5 @@
 -- An accepted offer, from the steps of the code: the removal, the label, the body, the header. Assumes nothing.
-use mathlib.Core.Path.{_≡_, sym, _∙_, subst}
+use mathlib.Core.Path.{_≡_, ap, sym, _∙_, subst}
 use mathlib.Core.List.{List}
 use Prim.Native.Nat.{ℕ, _+_, _*_, _-_, _^_, _≤_, _<_}
 use native.Mathlib.Omega.{arith}
@@ -26,7 +26,8 @@ use Rattle.pending_offer.specs.declared.plan.OfferPlan.{OfferPlan}
 use Rattle.pending_offer.specs.Promises.{bodyOf}
 use Rattle.pending_offer.specs.Room.{RoomFor, AddsBody}
 use Rattle.pending_offer.specs.Settle.{settledFigures}
-use Rattle.pending_offer.proofs.Settled.{sum-small, outcome, drops-counted, settled-does}
+use Rattle.pending_offer.proofs.Settled.{sum-small, outcome, drops-counted, bytes-counted}
+use Rattle.pending_offer.proofs.Settled.{settled-does}
 use Rattle.pending_offer.proofs.Left.{left-behind}
 use Rattle.pending_offer.proofs.Outcomes.{accepted-verdict}
 use Rattle.pending_offer.proofs.Accepted.{Accepting, placed-before, chosen, records-few, body-room, one-more}
@@ -114,6 +115,17 @@ module _ {w b : List ℕ} {l′ : PendingFlowsConfig} {i : ℕ} {body : List ℕ
 
     pub accepted-fewer : left .entries ≤ h
     accepted-fewer = omega (arith, counted)
+
+    -- where none of them goes, the bytes are known
+    pub accepted-total : {w₂ b₂ : List ℕ} (long : length w₂ ≡ length w)
+        (adds : AddsBody l′ (left .records) (left .entries) r body clock w₁ b w₂ b₂) {f : HeaderFigures} →
+        f ≡ figuresAt w →
+        (h - left .entries ≡ 0 → heldSum 1024 (entriesFrom w₂ entriesAt (left .entries + 1)) ≡ f .total + length body)
+    accepted-total long adds figures none =
+        let total = bytes-counted w b (known .ok) i x (known .small) verdict _ (tied-after known)
+        (l .«max_total_bytes») (omega (arith, bytes-long known, legal .limits-legal .bytes-enough)) (placed-after known)
+        (held-after known) (omega (arith, counted, accepted-fewer)) in
+        rw (added long adds .entries) (omega (arith, total, ap (λ (g : HeaderFigures). g .total) figures))
 
     pub accepted-does : {w₂ b₂ w′ : List ℕ} (long : length w₂ ≡ length w)
         (adds : AddsBody l′ (left .records) (left .entries) r body clock w₁ b w₂ b₂) {f : HeaderFigures} →

@@ -33,7 +33,7 @@ use Rattle.pending_flows.specs.View.{bodiesAt, templatesAt}
 use Rattle.table_view.proofs.Tied.{Tied, entries-small}
 use Rattle.table_view.proofs.Swept.{bodyStays}
 use Rattle.table_view.proofs.Closed.{templates-take, templates-drop}
-use Rattle.table_view.proofs.AllStay.{none-skipped}
+use Rattle.table_view.proofs.AllStay.{none-skipped, all-stay}
 use Rattle.pending_offer.specs.declared.plan.OfferPlan.{OfferPlan}
 use Rattle.pending_offer.specs.declared.plan.Decision.{Decision}
 use Rattle.pending_offer.specs.Plan.{liveTest, liveAt, Decides, NothingGoes, planTest}
@@ -42,7 +42,7 @@ use Rattle.pending_offer.proofs.PlanReads.{Counted, here-read, others-r
 use Rattle.pending_offer.proofs.PlanLabels.{all-take, all-drop, Alike}
 use Rattle.pending_offer.proofs.PlanLabels.{alike, has-alike}
 use Rattle.pending_offer.proofs.PlanSums.{keep-unaged, all-skipped}
-use Rattle.pending_offer.proofs.PlanLive.{label-fresh, all-stay}
+use Rattle.pending_offer.proofs.PlanLive.{label-fresh}
 use Rattle.pending_offer.proofs.PlanSkips.{skipped, skipped-long, held-skipped, all-handed-skipped}
 use Rattle.pending_offer.proofs.PlanTables.{rows, labels-small, within, short, entries-few, some-templates}
 use Rattle.pending_offer.proofs.PlanTables.{held-counted, held-read, handed-are}

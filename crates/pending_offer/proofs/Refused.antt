@@ -1,5 +1,5 @@
 -- An offer that is turned down with 20: what the planned removal leaves is what the definition leaves. Assumes nothing.
-use mathlib.Core.Path.{_≡_, refl, sym, _∙_}
+use mathlib.Core.Path.{_≡_, refl, ap, sym, _∙_}
 use mathlib.Core.Bool.{true, cond}
 use mathlib.Core.List.{List, []}
 use Prim.Native.Nat.{ℕ, _+_, _*_, _-_, _^_, _≤_, _<_}
@@ -34,7 +34,8 @@ use Rattle.pending_offer.specs.Promises.{bodyOf}
 use Rattle.pending_offer.specs.Plan.{planTest, Plans}
 use Rattle.pending_offer.specs.Settle.{settledFigures}
 use Rattle.pending_offer.proofs.HeldBodies.{held-most}
-use Rattle.pending_offer.proofs.Settled.{sum-small, outcome, drops-counted, settled-does}
+use Rattle.pending_offer.proofs.Settled.{sum-small, outcome, drops-counted, bytes-counted}
+use Rattle.pending_offer.proofs.Settled.{settled-does}
 use Rattle.pending_offer.proofs.Left.{held-legal, left-rows, left-placed, left-entries, left-records}
 use Rattle.pending_offer.proofs.Left.{left-behind, staying, bodies-left, templates-left}
 use Rattle.pending_offer.proofs.Outcomes.{leaves, refused-verdict, refused-held}
@@ -118,6 +119,14 @@ module _ {w b : List ℕ} {l′ : PendingFlowsConfig} {i : ℕ} {body : List ℕ
 
     pub refused-fewer : left .entries ≤ h
     refused-fewer = omega (arith, counted)
+
+    -- where none of them goes, the bytes are as before
+    pub refused-total : {f : HeaderFigures} → f ≡ figuresAt w →
+        (h - left .entries ≡ 0 → heldSum 1024 (entriesFrom w₁ entriesAt (left .entries)) ≡ f .total + 0)
+    refused-total figures none =
+        let total = bytes-counted w b (known .ok) i x (known .small) verdict b rows (l .«max_total_bytes»)
+        (legal .limits-legal .bytes-enough) placed held-left (omega (arith, counted, refused-fewer)) in
+        omega (arith, total, ap (λ (g : HeaderFigures). g .total) figures)
 
     pub drops-fit : h - left .entries + 1 < 2 ^ 64
     drops-fit =

@@ -144,6 +144,8 @@ fn accept(
         figures,
         1,
         drops,
+        drops,
+        body.len() as u64,
         left.records + 1,
         left.entries + 1,
     );
@@ -192,6 +194,8 @@ fn turn_down(
         figures,
         0,
         drops + 1,
+        drops,
+        0,
         left.records,
         left.entries,
     );

@@ -1,6 +1,6 @@
 use mathlib.Core.Path.{_∙_}
 use Rattle.pending_flows.proofs.Questions.{bodies-few, header-within}
-use Rattle.pending_drain.proofs.AsRead.{held-room, rows-room, records-few}
+use Rattle.pending_drain.proofs.AsRead.{held-room}
 use Rattle.pending_drain.proofs.Drains.{hand-ready, Settling, settling}
 use Rattle.pending_drain.proofs.Drains.{drain-done}
 use borrow.Author.Needs.{needs}
@@ -38,28 +38,26 @@ records-at-requires c κs = search (bodies-few, needs)
 label-for-requires : tie.Need-label-for-requires
 label-for-requires c κs = search (held-room, needs)
 
-take-out-requires : tie.Need-take-out-requires
-take-out-requires c κs =
+take-label-requires : tie.Need-take-label-requires
+take-label-requires c κs =
     let h : tie.After-label-for = c .before in (
-      rows-room _ (limited h .limits-at .ensures) (figured h .figures-at .ensures) (placed h .records-at .ensures) _
-          (start h .pre .0),
-      records-few _ (limited h .limits-at .ensures) (figured h .figures-at .ensures) (placed h .records-at .ensures) _
-          (start h .pre .0),
+      (start h .pre .0, limited h .limits-at .ensures),
+      ((figured h .figures-at .ensures, placed h .records-at .ensures), h .label-for .ensures),
     )
 
-cast-t27 : tie.Need-cast-t27
-cast-t27 c = search needs
+cast-t26 : tie.Need-cast-t26
+cast-t26 c = search needs
 
 hand-out-requires : tie.Need-hand-out-requires
 hand-out-requires c κs =
-    let taken : tie.After-take-out = c .before .before .before .before in
+    let taken : tie.After-take-label = c .before .before .before .before in
     let h : tie.After-label-for = taken .before .before in
     hand-ready _ (start h .args .bytes .now) _ _ (start h .pre .0)
     (limited h .limits-at .ensures) (figured h .figures-at .ensures) (placed h .records-at .ensures)
-    (h .label-for .ensures) (taken .take-out .ensures)
+    (h .label-for .ensures) (taken .take-label .ensures)
 
 -- what is known once the record of what is handed out stands
-abbrev taken : tie.After-hand-out → tie.After-take-out
+abbrev taken : tie.After-hand-out → tie.After-take-label
 taken c = c .before .before .before .before .before
 
 abbrev labelled : tie.After-hand-out → tie.After-label-for
@@ -67,13 +65,13 @@ labelled c = taken c .before .before
 
 settled : (c : tie.After-hand-out) →
     Settling (figured (labelled c) .figures-at .result .entries) (handed (labelled c) .handed-count .result)
-    (taken c .take-out .result .entries) (c .hand-out .last .0)
+    (taken c .take-label .result .entries) (c .hand-out .last .0)
 settled c =
     let h : tie.After-label-for = labelled c in
     settling _ (start h .args .bytes .now) _ _ (start h .pre .0) (limited h .limits-at .ensures)
     (figured h .figures-at .ensures) (placed h .records-at .ensures) (h .label-for .ensures)
-    (taken c .take-out .ensures) (start h .pre .1) (c .hand-out .ensures)
-    (c .hand-out .kept .0 ∙ taken c .take-out .kept .0) (handed h .handed-count .ensures)
+    (taken c .take-label .ensures) (start h .pre .1) (c .hand-out .ensures)
+    (c .hand-out .kept .0 ∙ taken c .take-label .kept .0) (handed h .handed-count .ensures)
 
 dropped-after-requires : tie.Need-dropped-after-requires
 dropped-after-requires c κs =
@@ -102,8 +100,8 @@ returns c =
     let added : tie.After-hand-out = counted .before .before .before in
     let h : tie.After-label-for = labelled added in
     drain-done _ _ _ _ (start h .pre .0) (limited h .limits-at .ensures) (figured h .figures-at .ensures)
-    (placed h .records-at .ensures) (h .label-for .ensures) (taken added .take-out .ensures) (start h .pre .1)
-    (added .hand-out .ensures) (added .hand-out .kept .0 ∙ taken added .take-out .kept .0)
+    (placed h .records-at .ensures) (h .label-for .ensures) (taken added .take-label .ensures) (start h .pre .1)
+    (added .hand-out .ensures) (added .hand-out .kept .0 ∙ taken added .take-label .kept .0)
     (handed h .handed-count .ensures) (counted .dropped-after .ensures) (summed .held-bytes .ensures)
     (written .write-header .ensures)
 
@@ -116,8 +114,8 @@ drain-cache-spec =
     handed-count-requires
     records-at-requires
     label-for-requires
-    take-out-requires
-    cast-t27
+    take-label-requires
+    cast-t26
     hand-out-requires
     dropped-after-requires
     held-bytes-requires

@@ -1,7 +1,7 @@
 use native.Mathlib.Omega.{arith}
 use borrow.Author.Needs.{needs}
 use Rattle.pending_flows.proofs.Questions.{bodies-few, header-within}
-use Rattle.pending_drain.proofs.AsRead.{rows-room, records-few}
+use Rattle.pending_calls.proofs.NoneRemoved.{records-few, entries-below, records-inside}
 use Rattle.pending_drain.proofs.Restores.{count-small, Settling, settling, put-back-written}
 use Rattle.pending_drain.proofs.restoring.put_back.Statement.{statement}
 use Rattle.pending_drain.proofs.restoring.put_back.Tie as tie
@@ -35,11 +35,13 @@ cast-take-back c =
 
 take-back-requires : tie.Need-take-back-requires
 take-back-requires c κs =
-    let h : tie.After-records-at = c .before .before in (
-      rows-room _ (limited h .limits-at .ensures) (figured h .figures-at .ensures) (h .records-at .ensures) _
-          (start h .pre .0),
-      records-few _ (limited h .limits-at .ensures) (figured h .figures-at .ensures) (h .records-at .ensures) _
-          (start h .pre .0),
+    let h : tie.After-records-at = c .before .before in
+    let ok = start h .pre .0 in
+    let limits = limited h .limits-at .ensures in
+    let figures = figured h .figures-at .ensures in
+    let from = h .records-at .ensures in (
+      (entries-below _ _ ok _ figures _ limits _ from, records-inside _ _ ok _ figures _ limits _ from),
+      records-few _ _ ok _ figures,
     )
 
 -- what is known once what goes is taken out

@@ -2,7 +2,7 @@ use mathlib.Core.Path.{refl, _∙_}
 use borrow.Author.Needs.{needs}
 use Rattle.pending_offer.proofs.Accepted.{Accepting}
 use Rattle.pending_offer.proofs.Accepts.{accepted-room, accepted-fewer, records-fit, entries-fit}
-use Rattle.pending_offer.proofs.Accepts.{accepted-settles, accepted-does}
+use Rattle.pending_offer.proofs.Accepts.{accepted-settles, accepted-total, accepted-does}
 use Rattle.pending_offer.proofs.offering.accept.Statement.{statement}
 use Rattle.pending_offer.proofs.offering.accept.Tie as tie
 
@@ -75,8 +75,11 @@ add-settle-2 c =
 settle-requires : tie.Need-settle-requires
 settle-requires c κs =
     let added : tie.After-add-body = c .before .before .before .before .before .before .before in
-    accepted-settles (known (chosen added)) (added .add-body .kept .0 ∙ known (chosen added) .long)
-    (added .add-body .ensures)
+    let long = added .add-body .kept .0 ∙ known (chosen added) .long in (
+      accepted-settles (known (chosen added)) long (added .add-body .ensures),
+      accepted-total (known (chosen added)) (held (chosen added) .held-bodies .ensures) long (added .add-body .ensures)
+          (start (chosen added) .pre .1 .0 .0),
+    )
 
 same-length : tie.Need-same-length
 same-length c = search needs

@@ -1,6 +1,7 @@
 use mathlib.Core.Path.{refl}
 use borrow.Author.Needs.{needs}
-use Rattle.pending_offer.proofs.Refused.{Refusing, refused-settles, refused-fewer, drops-fit, refused-does}
+use Rattle.pending_offer.proofs.Refused.{Refusing, refused-settles, refused-fewer, refused-total, drops-fit}
+use Rattle.pending_offer.proofs.Refused.{refused-does}
 use Rattle.pending_offer.proofs.offering.turn_down.Statement.{statement}
 use Rattle.pending_offer.proofs.offering.turn_down.Tie as tie
 
@@ -48,7 +49,11 @@ add-settle c =
     record { fits = drops-fit (known left) (held left .held-bodies .ensures) }
 
 settle-requires : tie.Need-settle-requires
-settle-requires c κs = refused-settles (known (c .before .before .before))
+settle-requires c κs =
+    let left : tie.After-remove-planned = c .before .before .before in (
+      refused-settles (known left),
+      refused-total (known left) (held left .held-bodies .ensures) (begins (held left) .pre .1 .0 .0),
+    )
 
 same-length : tie.Need-same-length
 same-length c = search needs

@@ -3,8 +3,8 @@ use Rattle.pending_offer.proofs.HeldBodies.{header-settled}
 use Rattle.pending_offer.proofs.settling.settle.Statement.{statement}
 use Rattle.pending_offer.proofs.settling.settle.Tie as tie
 
-held-bytes-requires : tie.Need-held-bytes-requires
-held-bytes-requires c κs = search needs
+total-after-requires : tie.Need-total-after-requires
+total-after-requires c κs = search needs
 
 raised-requires : tie.Need-raised-requires
 raised-requires c κs = search needs
@@ -25,7 +25,7 @@ pub settle-spec : {M : Type 1} → statement M
 settle-spec =
     tie.close
     (tie.spec
-    held-bytes-requires
+    total-after-requires
     raised-requires
     raised-requires-2
     write-header-requires
