@@ -1,0 +1,18 @@
+// The lines of an input.
+ghost use mathlib.Core.Path.{_≡_};
+ghost use lib.ListN.{length};
+ghost use Rattle.pendlist_lines.specs.Input.{firstLine};
+
+// Where the first line of a text ends: at its first newline, or at the text's end where there is none.
+pub fn line_end(text: &[u8]) -> usize
+    ensures { λ r. ⌜ r ≡ length (firstLine (now (text .entry))) ⌝ }
+{
+    let mut end: usize = 0;
+    while end < text.len() {
+        if text[end] == b'\n' {
+            return end;
+        }
+        end += 1;
+    }
+    end
+}
