@@ -5,6 +5,7 @@ mod words;
 
 pub use body::fill_body;
 pub use input::line_end;
+pub use input::whole_lines;
 ghost use mathlib.Core.Path.{_≡_};
 ghost use Rattle.pendlist_lines.specs.Grammar.{wordsOf, wordAt, ttlOf, openOf, offerOf, drainOf, isCommand};
 ghost use Rattle.pendlist_lines.specs.Grammar.{fromWords, lineOf, inOrder};

@@ -21,6 +21,7 @@ mod lent;
 mod limits;
 mod original;
 mod parts;
+pub mod pendlist;
 pub mod record;
 #[cfg(feature = "live-cache")]
 mod redo;
