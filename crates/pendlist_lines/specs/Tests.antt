@@ -17,7 +17,7 @@ use Rattle.pendlist_lines.specs.Input.{firstLine}
 use Rattle.pendlist_lines.specs.Body.{ramp}
 
 -- a text of ASCII characters as bytes
-abbrev bytesOf : String → List ℕ
+abbrev pub bytesOf : String → List ℕ
 bytesOf []ˢ = []
 bytesOf (c ∷ˢ s) = code c ∷ bytesOf s
 

@@ -1,5 +1,5 @@
 //! Command `record-pendlist`: a list of calls for the program `pendlist`, and the table that the
-//! original gives for it.
+//! original gives for it. A second `c` ends it, with `bad` by document 01's rule.
 
 use super::limits::{Areas, Limits};
 use super::original::Cache;
@@ -40,7 +40,6 @@ pub fn run(list: &str, table: &str, seed: u64, lines: u64) -> Result<ExitCode, S
     Ok(ExitCode::SUCCESS)
 }
 
-/// The last line has no newline behind it.
 fn write_both(
     mut list: impl Write,
     mut table: impl Write,
@@ -50,15 +49,18 @@ fn write_both(
     let mut cache = Cache::open(&LIMITS, AREAS).expect("legal limits");
     let mut generator = Generator { random: Random::new(seed), clock: 0 };
     let mut counts = Counts::new();
-    write!(list, "{}", opening(&LIMITS))?;
+    writeln!(list, "{}", opening(&LIMITS))?;
     writeln!(table, "{HEADER}")?;
     for _ in 0..lines {
         let line = generator.line();
-        write!(list, "\n{}", generator.text(line))?;
+        writeln!(list, "{}", generator.text(line))?;
         let (row, call, answer) = row(&mut cache, line);
         writeln!(table, "{row}")?;
         *counts.entry((call, answer)).or_default() += 1;
     }
+    writeln!(list, "{}", opening(&LIMITS))?;
+    writeln!(list, "{}", generator.text(Line::Offer { id: 300, length: 1, clock: 0 }))?;
+    writeln!(table, "bad")?;
     list.flush()?;
     table.flush()?;
     Ok(counts)
