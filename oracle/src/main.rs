@@ -11,6 +11,7 @@ usage: oracle record-framing FILE
        oracle stream-cache [SEED [LISTS]]
        oracle stream-cache-defaults [SEED [CALLS]]
        oracle count-cache [SEED [LISTS]]
+       oracle record-pendlist LIST TABLE [SEED [LINES]]
        oracle compare-framing [SEED [COUNT]]   (feature live)
        oracle compare-cache [SEED [LISTS]]     (feature live)
        oracle damage-cache [SEED [TRIALS]]     (feature live)
@@ -48,6 +49,10 @@ fn run(arguments: &[&str]) -> Result<ExitCode, String> {
         ["count-cache", rest @ ..] => {
             let (seed, lists) = seed_and_count(rest, cache::count::DEFAULTS)?;
             cache::count::run(seed, lists)
+        }
+        ["record-pendlist", list, table, rest @ ..] => {
+            let (seed, lines) = seed_and_count(rest, cache::pendlist::DEFAULTS)?;
+            cache::pendlist::run(list, table, seed, lines)
         }
         #[cfg(feature = "live")]
         ["compare-framing", rest @ ..] => {

@@ -1,4 +1,5 @@
 pub mod Splits
+pub mod Ends
 pub mod Digits
 pub mod Lines
 pub mod Ramp

@@ -17,7 +17,7 @@ use Rattle.pendlist_lines.specs.declared.TtlFound.the-variants.{Is, Neit
 use Rattle.pendlist_lines.specs.declared.Line.{Line}
 use Rattle.pendlist_lines.specs.declared.Line.the-variants.{Bad}
 use Rattle.pendlist_lines.specs.Grammar.{wordAt, isByte, numberOf, ttlOf, withNumber, withTtl, within16}
-use Rattle.pendlist_lines.specs.Grammar.{openOf, offerOf, drainOf, isCommand, fromWords}
+use Rattle.pendlist_lines.specs.Grammar.{openOf, offerOf, drainOf, isCommand, fromWords, wordsOf, lineOf, inOrder}
 
 module _ {x y : NumberFound} (says : ℕ → Line) (read : x ≡ y) where
   pub no-number : x ≡ Nothing → Bad ≡ withNumber y says
@@ -91,3 +91,18 @@ module _ (ws : List (List ℕ)) {c : Bool} (is-c : c ≡ isCommand 99 5 ws) wher
       pub says-nothing : d ≡ false → Bad ≡ fromWords ws
       unfolding fromWords
       says-nothing e = rw (sym is-c ∙ no-c, sym is-o ∙ no-o, sym is-d ∙ e)
+
+-- The length of a line comes first.
+module _ (line : List ℕ) where
+  pub too-long : 255 < length line → Bad ≡ lineOf line
+  unfolding lineOf
+  too-long h = rw (lt-leb (length line) 255 h)
+
+  pub short-line : {r : Line} → length line ≤ 255 → r ≡ fromWords (wordsOf line) → r ≡ lineOf line
+  unfolding lineOf
+  short-line h e = e ∙ rw (le-leb (length line) 255 h)
+
+-- What is done with a line, once it is known what it says and whether a cache is open.
+pub decided : {line said r : Line} {opened was : Bool} → line ≡ said → opened ≡ was → r ≡ inOrder was said →
+    r ≡ inOrder opened line
+decided e f g = g ∙ rw (e, f)

@@ -1,7 +1,9 @@
 -- The grammar of an input line of `pendlist`, given without its newline (document 01, "Cases"). Decided here:
 -- words are separated by exactly one blank (32), and none stands before the first word or behind the last; the first
 -- word is exactly `c`, `o` or `d`; a number is one or more decimal digits, leading zeros are taken, and above 2^64 - 1
--- it is none; ids and lengths are at most 65,535; the limits of `c` are any numbers, since opening tests them.
+-- it is none; ids and lengths are at most 65,535; the limits of `c` are any numbers, since opening tests them; a line
+-- has at most 255 bytes, and a longer one is malformed whatever it says: with leading zeros left out none has more
+-- than 106, and so a line fits a bounded buffer. How an input is parted into lines is in Input.antt.
 -- All else is malformed: an empty line, a tab, a carriage return, a sign, a word missing or too many.
 use mathlib.Core.Bool.{Bool, true, false, cond}
 use mathlib.Core.List.{List, [], _∷_}
@@ -126,6 +128,18 @@ fromWords ws =
     (cond (isCommand 111 3 ws) (offerOf ws)
     (cond (isCommand 100 2 ws) (drainOf ws) Bad))
 
+-- the most bytes of a line
+abbrev pub longest : ℕ
+longest = 255
+
 -- what a line says
-abbrev pub lineOf : List ℕ → Line
-lineOf line = fromWords (wordsOf line)
+unfoldable pub lineOf : List ℕ → Line
+lineOf line = cond (leb (length line) longest) (fromWords (wordsOf line)) Bad
+
+-- What is done with a line, given whether a cache is open: `c` opens one, once, and `o` and `d` need it ("an `o` or `d`
+-- before any `c`, a second `c`").
+abbrev pub inOrder : Bool → Line → Line
+inOrder opened (Open limits) = cond opened Bad (Open limits)
+inOrder opened (Offer offer) = cond opened (Offer offer) Bad
+inOrder opened (Drain drain) = cond opened (Drain drain) Bad
+inOrder opened Bad = Bad

@@ -1,4 +1,5 @@
 pub mod Grammar
+pub mod Input
 pub mod Starts
 pub mod Body
 pub mod Digits

@@ -4,17 +4,20 @@ use mathlib.Core.List.{List, [], _∷_, _++_, map}
 use Prim.Native.Nat.{ℕ}
 use Prim.Native.Char.{code}
 use Prim.Native.String.{String, [] as []ˢ, _∷_ as _∷ˢ_}
+use mathlib.Core.Bool.{true, false}
+use lib.ListN.{replicate}
 use Rattle.config.specs.declared.Ttl.{Ttl}
 use Rattle.config.specs.declared.Ttl.the-variants.{None, After}
 use Rattle.pendlist_lines.specs.declared.Line.{Line}
 use Rattle.pendlist_lines.specs.declared.Line.the-variants.{Open, Offer, Drain, Bad}
 use Rattle.pendlist_lines.specs.Grammar.{wordsOf, isByte, allDigits, valueFrom, numberFrom, numberOf, ttlOf}
 use Rattle.pendlist_lines.specs.Grammar.{withNumber, withTtl, within16, openOf, offerOf, drainOf, isCommand}
-use Rattle.pendlist_lines.specs.Grammar.{fromWords, lineOf}
+use Rattle.pendlist_lines.specs.Grammar.{fromWords, lineOf, inOrder}
+use Rattle.pendlist_lines.specs.Input.{firstLine}
 use Rattle.pendlist_lines.specs.Body.{ramp}
 
 -- a text of ASCII characters as bytes
-abbrev bytesOf : String → List ℕ
+abbrev pub bytesOf : String → List ℕ
 bytesOf []ˢ = []
 bytesOf (c ∷ˢ s) = code c ∷ bytesOf s
 
@@ -41,7 +44,7 @@ pub document-lines :
     map says ("c 2 2 10 16 100" ∷ "o 300 6 0" ∷ "o 301 8 1" ∷ "o 300 4 2" ∷ "d 301 3" ∷ [])
     ≡ opens 2 2 10 16 (After 100) ∷ offers 300 6 0 ∷ offers 301 8 1 ∷ offers 300 4 2 ∷ drains 301 3 ∷ []
 unfolding wordsOf isByte allDigits valueFrom numberFrom numberOf ttlOf withNumber withTtl within16 openOf offerOf
-    drainOf isCommand fromWords
+    drainOf isCommand fromWords lineOf
 document-lines = refl
 
 -- no TTL; leading zeros; the largest number, id and length; limits that opening will refuse
@@ -52,7 +55,7 @@ pub lines-taken :
     ≡ opens 2 2 10 16 None ∷ opens 2 2 10 16 (After 0) ∷ drains 301 3 ∷ drains 0 18446744073709551615
     ∷ offers 65535 65535 0 ∷ drains 65535 0 ∷ opens 0 0 0 18446744073709551615 (After 18446744073709551615) ∷ []
 unfolding wordsOf isByte allDigits valueFrom numberFrom numberOf ttlOf withNumber withTtl within16 openOf offerOf
-    drainOf isCommand fromWords
+    drainOf isCommand fromWords lineOf
 lines-taken = refl
 
 -- blanks too few, too many, or none; other white space
@@ -86,8 +89,36 @@ large =
 pub lines-malformed : map says (blanks ++ (counts ++ (letters ++ (numbers ++ large))))
     ≡ map (λ s. Bad) (blanks ++ (counts ++ (letters ++ (numbers ++ large))))
 unfolding wordsOf isByte allDigits valueFrom numberFrom numberOf ttlOf withNumber withTtl within16 openOf offerOf
-    drainOf isCommand fromWords
+    drainOf isCommand fromWords lineOf
 lines-malformed = refl
+
+-- a drain of id 301 with so many zeros in front of its clock reading, 3: the line has seven bytes more
+abbrev padded : ℕ → Line
+padded zeros = lineOf (bytesOf "d 301 " ++ (replicate zeros 48 ++ bytesOf "3"))
+
+-- the longest line, and one byte more
+pub length-of-lines : (padded 248 ≡ drains 301 3) × (padded 249 ≡ Bad)
+unfolding wordsOf isByte allDigits valueFrom numberFrom numberOf ttlOf withNumber withTtl within16 openOf offerOf
+    drainOf isCommand fromWords lineOf
+length-of-lines = (refl, refl)
+
+-- `c` comes first and once
+pub lines-in-order :
+    map (inOrder false) (opens 2 2 10 16 None ∷ offers 300 6 0 ∷ drains 301 3 ∷ Bad ∷ [])
+    ≡ opens 2 2 10 16 None ∷ Bad ∷ Bad ∷ Bad ∷ []
+lines-in-order = refl
+
+pub lines-in-order-after :
+    map (inOrder true) (opens 2 2 10 16 None ∷ offers 300 6 0 ∷ drains 301 3 ∷ Bad ∷ [])
+    ≡ Bad ∷ offers 300 6 0 ∷ drains 301 3 ∷ Bad ∷ []
+lines-in-order-after = refl
+
+-- the first line of a text: no newline, one behind it, one in front, a carriage return left in it
+pub first-lines :
+    map (λ s. firstLine (bytesOf s)) ("" ∷ "d 1" ∷ "d 1\n" ∷ "d 1\nd 2\n" ∷ "\nd 1" ∷ "d\r\n" ∷ [])
+    ≡ map bytesOf ("" ∷ "d 1" ∷ "d 1" ∷ "d 1" ∷ "" ∷ "d\r" ∷ [])
+unfolding firstLine
+first-lines = refl
 
 -- byte i of a body is i modulo 256
 pub bodies-right : (ramp 0 4 ≡ 0 ∷ 1 ∷ 2 ∷ 3 ∷ []) × (ramp 254 4 ≡ 254 ∷ 255 ∷ 0 ∷ 1 ∷ [])

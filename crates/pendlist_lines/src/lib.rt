@@ -1,11 +1,14 @@
 // One input line of the program `pendlist`, and the bodies that it offers (document 01, "Cases").
 mod body;
+mod input;
 mod words;
 
 pub use body::fill_body;
+pub use input::line_end;
+pub use input::whole_lines;
 ghost use mathlib.Core.Path.{_≡_};
 ghost use Rattle.pendlist_lines.specs.Grammar.{wordsOf, wordAt, ttlOf, openOf, offerOf, drainOf, isCommand};
-ghost use Rattle.pendlist_lines.specs.Grammar.{lineOf};
+ghost use Rattle.pendlist_lines.specs.Grammar.{fromWords, lineOf, inOrder};
 use config::PendingFlowsConfig;
 use config::Ttl;
 use words::NumberFound;
@@ -45,6 +48,9 @@ enum TtlFound {
 
 // The largest id and length.
 const MAX_U16: u64 = 65535;
+
+// The most bytes of a line.
+pub const MAX_LINE: usize = 255;
 
 // Word k as a TTL: `-` is none.
 fn ttl_at(line: &[u8], k: usize) -> TtlFound
@@ -142,9 +148,9 @@ fn is_command(line: &[u8], letter: u8, behind: usize) -> bool
     false
 }
 
-// What a line says, given without its newline.
-pub fn parse_line(line: &[u8]) -> Line
-    ensures { λ r. ⌜ r ≡ lineOf (now (line .entry)) ⌝ }
+// What the words of a line say.
+fn parse_words(line: &[u8]) -> Line
+    ensures { λ r. ⌜ r ≡ fromWords (wordsOf (now (line .entry))) ⌝ }
 {
     if is_command(line, b'c', 5) {
         return open_line(line);
@@ -156,4 +162,41 @@ pub fn parse_line(line: &[u8]) -> Line
         return drain_line(line);
     }
     Line::Bad
+}
+
+// What a line says, given without its newline.
+pub fn parse_line(line: &[u8]) -> Line
+    ensures { λ r. ⌜ r ≡ lineOf (now (line .entry)) ⌝ }
+{
+    if MAX_LINE < line.len() {
+        return Line::Bad;
+    }
+    parse_words(line)
+}
+
+// What is done with a line, given whether a cache is open.
+pub fn in_order(opened: bool, line: Line) -> Line
+    ensures { λ r. ⌜ r ≡ inOrder opened line ⌝ }
+{
+    match line {
+        Line::Open(config) => {
+            if opened {
+                return Line::Bad;
+            }
+            Line::Open(config)
+        }
+        Line::Offer(offer) => {
+            if opened {
+                return Line::Offer(offer);
+            }
+            Line::Bad
+        }
+        Line::Drain(drain) => {
+            if opened {
+                return Line::Drain(drain);
+            }
+            Line::Bad
+        }
+        Line::Bad => Line::Bad,
+    }
 }

@@ -23,6 +23,7 @@ pub mod limits;
 pub mod memory;
 mod original;
 pub mod parts;
+pub mod pendlist;
 pub mod record;
 #[cfg(feature = "live")]
 mod redo;

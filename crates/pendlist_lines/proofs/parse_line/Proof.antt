@@ -1,49 +1,16 @@
-use Rattle.pendlist_lines.proofs.Lines.{says-open, says-offer, says-drain, says-nothing}
+use Rattle.pendlist_lines.proofs.Lines.{too-long, short-line}
 use borrow.Author.Needs.{needs}
 use Rattle.pendlist_lines.proofs.parse_line.Statement.{statement}
 use Rattle.pendlist_lines.proofs.parse_line.Tie as tie
 
-is-command-requires : tie.Need-is-command-requires
-is-command-requires c κs = search needs
-
-open-line-requires : tie.Need-open-line-requires
-open-line-requires c κs = search needs
-
 returns : tie.Need-returns
-returns c = search (says-open, needs)
+returns c = search (too-long, needs)
 
-is-command-requires-2 : tie.Need-is-command-requires-2
-is-command-requires-2 c κs = search needs
-
-offer-line-requires : tie.Need-offer-line-requires
-offer-line-requires c κs = search needs
+parse-words-requires : tie.Need-parse-words-requires
+parse-words-requires c κs = search needs
 
 returns-2 : tie.Need-returns-2
-returns-2 c = search (says-offer, needs)
-
-is-command-requires-3 : tie.Need-is-command-requires-3
-is-command-requires-3 c κs = search needs
-
-drain-line-requires : tie.Need-drain-line-requires
-drain-line-requires c κs = search needs
-
-returns-3 : tie.Need-returns-3
-returns-3 c = search (says-drain, needs)
-
-returns-4 : tie.Need-returns-4
-returns-4 c = search (says-nothing, needs)
+returns-2 c = search (short-line, needs)
 
 pub parse-line-spec : {M : Type 1} → statement M
-parse-line-spec =
-    tie.close
-    (tie.spec
-    is-command-requires
-    open-line-requires
-    returns
-    is-command-requires-2
-    offer-line-requires
-    returns-2
-    is-command-requires-3
-    drain-line-requires
-    returns-3
-    returns-4)
+parse-line-spec = tie.close (tie.spec returns parse-words-requires returns-2)

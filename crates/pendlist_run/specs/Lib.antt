@@ -1,0 +1,4 @@
+pub mod Steps
+pub mod Text
+pub mod Lists
+pub mod Tests
