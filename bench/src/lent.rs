@@ -2,6 +2,7 @@
 
 use crate::port;
 use crate::shape::{Shape, id_of};
+use std::hint::black_box;
 
 const HEADER: usize = 64;
 
@@ -41,10 +42,13 @@ impl Lent {
     }
 
     /// The live words as they were. Bytes of bodies are not put back: no call looks at them.
+    /// Twice, so that it does not matter what was in the processor's caches before.
     pub fn restore(&mut self) {
         let end = self.records_at + self.records.len();
-        self.words[..self.front.len()].copy_from_slice(&self.front);
-        self.words[self.records_at..end].copy_from_slice(&self.records);
+        for _ in 0..2 {
+            self.words[..self.front.len()].copy_from_slice(black_box(&self.front));
+            self.words[self.records_at..end].copy_from_slice(&self.records);
+        }
     }
 
     /// The live words: header with entries, records.
