@@ -7,7 +7,6 @@ ghost use lib.ListN.{length, set, replicate};
 ghost use Rattle.config.specs.Limits.{recordWords, entryWords};
 ghost use Rattle.table.specs.Layout.{limitsOf, entriesAt};
 ghost use Rattle.table.specs.Table.{tableOf, entriesFrom, recordsFrom};
-ghost use Rattle.table.specs.Reads.{labelOf};
 ghost use Rattle.table.specs.WellFormed.{wellFormed};
 ghost use Rattle.table_records.specs.Choose.{skipAll, liveRecords, firstLive};
 ghost use Rattle.cache_model.specs.Removal.{evictions};
