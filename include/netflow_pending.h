@@ -1,8 +1,10 @@
 /*
- * The proved pending flow cache and output preflight: the functions of libnetflow_pending.a.
+ * The proved pending flow cache, output preflight and decoded-output budget: the functions of
+ * libnetflow_pending.a.
  *
  * Every function returns a number of enum netflow_number: 0, or why it was refused. Values are
- * written where the number is 0; beside any other number they stay as they were.
+ * written where the number is 0; beside any other number they stay as they were, but for the excess
+ * of a reservation.
  *
  * No pointer may be null, also where the length beside it is 0; no bytes are read then. Memory that
  * is not const overlaps no other memory of the same call. Nothing is allocated, nothing is kept
@@ -176,6 +178,74 @@ uint32_t netflow_pending_place_handed_out(const uint64_t *words, size_t words_le
                                           uint64_t place[2]);
 
 /* ---- the decoded-output budget ------------------------------------------------------------- */
+
+/*
+ * A budget is seven words that the caller owns: the limits (field values, payload bytes), the use
+ * (field values, payload bytes), and the recorded excess (one of enum netflow_budget_limit, its
+ * configured figure, the attempted sum). Any seven words are a budget; a recorded limit that is
+ * none is read as none. The use, and a checkpoint to roll back to, are words 2 and 3.
+ *
+ * Field values and payload bytes are never added together or compared.
+ *
+ * A preflight is the number that a netflow_preflight function returned, and the cost that it wrote;
+ * beside another number than 0 the cost is not looked at.
+ */
+
+enum netflow_budget_limit {
+    NETFLOW_BUDGET_NONE = 0,
+    NETFLOW_BUDGET_FIELD_VALUES = 1,
+    NETFLOW_BUDGET_PAYLOAD_BYTES = 2
+};
+
+/* Whether these limits can be configured: 0 writes them. Refused, in this order: 9, 10, 11. */
+uint32_t netflow_budget_limits(uint64_t max_records, uint64_t max_values,
+                               uint64_t max_payload_bytes, uint64_t limits[3]);
+
+/* An unused budget with any two limits, 0 included. Returns 0. */
+uint32_t netflow_budget_new(uint64_t budget[7], uint64_t max_values, uint64_t max_payload_bytes);
+
+/* Nothing used and nothing recorded. Returns 0. */
+uint32_t netflow_budget_reset(uint64_t budget[7]);
+
+/* Other limits, with nothing used and nothing recorded. Returns 0. */
+uint32_t netflow_budget_set_limits(uint64_t budget[7], uint64_t max_values,
+                                   uint64_t max_payload_bytes);
+
+/*
+ * Takes both counts, or neither. Refused: 23, 24; these write the limit, its configured figure and
+ * the attempted sum (2^64 - 1 on overflow), and the first such excess stays recorded.
+ */
+uint32_t netflow_budget_reserve(uint64_t budget[7], uint64_t values, uint64_t payload_bytes,
+                                uint64_t excess[3]);
+
+/* Back to this use, with nothing recorded. Refused, with nothing changed: 26. */
+uint32_t netflow_budget_rollback(uint64_t budget[7], uint64_t values, uint64_t payload_bytes);
+
+/* Writes what remains of both counts. Returns 0. */
+uint32_t netflow_budget_remaining(const uint64_t budget[7], uint64_t counts[2]);
+
+/* Writes 1 where an excess is recorded, else 0. Returns 0. */
+uint32_t netflow_budget_is_exceeded(const uint64_t budget[7], uint64_t answer[1]);
+
+/* Writes the recorded excess, which is recorded no longer, or nothing where there is none. Returns 0. */
+uint32_t netflow_budget_take_exceeded(uint64_t budget[7], uint64_t excess[3]);
+
+/* Whether a body can ever fit. Refused: 7, 8. */
+uint32_t netflow_budget_validate_pending_full_budget(const uint64_t budget[7], uint32_t number,
+                                                     const uint64_t cost[3]);
+
+/* Whether a body fits what remains. Refused: 7, 8, 22. */
+uint32_t netflow_budget_validate_pending_remaining(const uint64_t budget[7], uint32_t number,
+                                                   const uint64_t cost[3]);
+
+/*
+ * Commits the cost of a body where it fits and the decoder's report agrees with the preflight: 0
+ * writes the length of the remainder. A success of 0 is a failure; what is reported is field
+ * values, payload bytes and the length of the remainder. Refused, with nothing changed: 7, 8, 22.
+ */
+uint32_t netflow_budget_materialize_pending(uint64_t budget[7], uint32_t number,
+                                            const uint64_t cost[3], uint32_t success,
+                                            const uint64_t reported[3], uint64_t remainder[1]);
 
 #ifdef __cplusplus
 }

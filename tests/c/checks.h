@@ -13,6 +13,7 @@ void check(const char *name, const uint64_t *came, const uint64_t *expected, siz
 
 void run_framing_cases(void);
 void run_cache_cases(void);
+void run_budget_cases(void);
 
 /* The cases so far, and those that differ. */
 extern unsigned checked;

@@ -7,6 +7,7 @@ int main(void)
 {
     run_framing_cases();
     run_cache_cases();
+    run_budget_cases();
     printf("%u cases, %u differ\n", checked, different);
     return different != 0;
 }
