@@ -276,20 +276,23 @@ impl Both {
         }
     }
 
-    /// As many bytes of the same area moved at once towards the front: by the length of a body, or
-    /// by an entry.
+    /// As many bytes of the same area moved at once towards the front, as far as they move in the
+    /// mean: after a gap by its length, after an eviction by half of what was evicted.
     pub fn memmove(&mut self) -> Spent {
         let moved = self.moved();
         let time = match self.shape.call {
             Call::OfferPacks | Call::OfferEvictsBytes => {
-                let from = self.shape.length;
+                let Shape { call, per, length, .. } = self.shape;
+                let evicted = if call == Call::OfferPacks { 1 } else { per.div_ceil(2) };
+                let from = evicted * length;
                 let to = (from + moved).min(self.lent.bytes.len());
                 let bytes = black_box(&mut self.lent.bytes);
                 time_of(|| bytes.copy_within(from..to, 0)).0
             }
             _ => {
                 self.lent.restore();
-                let (from, to) = (HEADER_WORDS + ENTRY_WORDS, HEADER_WORDS);
+                let evicted = self.shape.per.div_ceil(2);
+                let (from, to) = (HEADER_WORDS + evicted * ENTRY_WORDS, HEADER_WORDS);
                 let words = black_box(&mut self.lent.words);
                 time_of(|| words.copy_within(from..from + moved / 8, to)).0
             }

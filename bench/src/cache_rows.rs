@@ -3,7 +3,7 @@
 use crate::both::Both;
 use crate::figures::{grouped, ratio, time};
 use crate::shape::{Call, Order, Shape};
-use crate::timing::{Budget, interleaved};
+use crate::timing::{Budget, Taken, interleaved, median_of};
 use std::time::{Duration, Instant};
 
 /// Templates and bodies: a few templates, many, one, and one body each.
@@ -69,9 +69,9 @@ impl Table {
         Shape::new(self.call, templates, bodies, self.ttl, LENGTH)
     }
 
-    /// An eviction of the only template leaves nothing to pack.
+    /// One template has no half, and its eviction leaves nothing to pack.
     pub fn has(&self, templates: usize) -> bool {
-        self.call != Call::OfferEvictsBytes || templates > 1
+        templates > 1 || !matches!(self.call, Call::OfferEvictsBytes | Call::ResizeHalves)
     }
 }
 
@@ -157,7 +157,8 @@ fn print_row(budget: Budget, shape: Shape) -> f64 {
         &mut both,
         &mut [&mut Both::ours, &mut Both::rust, &mut Both::scalar, &mut Both::vectorised],
     );
-    let [ours, rust, scalar, vectorised] = taken[..] else { unreachable!("four sides") };
+    let [ours, rust, scalar, vectorised] = &taken[..] else { unreachable!("four sides") };
+    let [ours, rust, scalar, vectorised] = [ours, rust, scalar, vectorised].map(Taken::figure);
     let (rust_time, rust_ratio) = match shape.call {
         Call::PlaceHandedOut => ("-".to_string(), "-".to_string()),
         _ => (time(rust), ratio(ours / rust)),
@@ -189,7 +190,8 @@ const MOVES: [(usize, usize, usize); 10] = [
     (16, 16, 1_500),
 ];
 
-/// Offers that move what others left, beside one memmove of the same bytes.
+/// Offers that move what others left, beside one memmove of the same bytes. Such large moves hang
+/// on what else uses the memory in that moment, so the ratios are medians of those of the rounds.
 pub fn print_moves(budget: Budget) {
     println!("\n### Offers that move bodies or entries\n");
     println!(
@@ -218,7 +220,7 @@ fn print_move(budget: Budget, shape: Shape) {
             states.0.memmove()
         }],
     );
-    let [ours, plain, memmove] = taken[..] else { unreachable!("three sides") };
+    let [ours, plain, memmove] = &taken[..] else { unreachable!("three sides") };
     let moved = match shape.call {
         Call::OfferPacks => "all bodies, to close a gap",
         Call::OfferEvictsBytes => "all bodies but those evicted",
@@ -230,11 +232,11 @@ fn print_move(budget: Budget, shape: Shape) {
         grouped(shape.bodies()),
         grouped(shape.length),
         grouped(states.0.moved()),
-        time(ours),
-        time(plain),
-        time(memmove),
-        ratio(ours / memmove),
-        ratio((ours - plain) / memmove),
+        time(ours.figure()),
+        time(plain.figure()),
+        time(memmove.figure()),
+        ratio(median_of(&taken, |round| round[0] / round[2])),
+        ratio(median_of(&taken, |round| (round[0] - round[1]) / round[2])),
     );
 }
 

@@ -160,8 +160,8 @@ fn row(budget: Budget, reading: &Reading, template: &Template, length: usize) ->
         name: format!("{} | {}", reading.name, template.name),
         body: bodies.iter().map(Vec::len).sum::<usize>() / bodies.len(),
         records: values / widths.len() / bodies.len(),
-        ours: taken[0],
-        rust: taken[1],
+        ours: taken[0].figure(),
+        rust: taken[1].figure(),
     })
 }
 

@@ -97,9 +97,9 @@ const LONGEST: u32 = 10;
 /// One side's measurements: the nanoseconds of a run, and how many calls that run made.
 pub type Run<'a, S> = &'a mut dyn FnMut(&mut S) -> (f64, u64);
 
-/// Runs all sides in turn, again and again, and gives what each took, in nanoseconds for one call.
-/// The sides share a state.
-pub fn interleaved<S>(budget: Budget, state: &mut S, sides: &mut [Run<'_, S>]) -> Vec<f64> {
+/// Runs all sides in turn, again and again, and gives what each took for one call. The sides share
+/// a state.
+pub fn interleaved<S>(budget: Budget, state: &mut S, sides: &mut [Run<'_, S>]) -> Vec<Taken> {
     let mut taken: Vec<Taken> = sides.iter().map(|_| Taken::default()).collect();
     let mut long = vec![true; sides.len()];
     let mut runs = 0;
@@ -115,16 +115,18 @@ pub fn interleaved<S>(budget: Budget, state: &mut S, sides: &mut [Run<'_, S>]) -
         runs += 1;
         let passed = start.elapsed();
         if passed >= budget.time && (runs >= budget.runs || passed >= LONGEST * budget.time) {
-            return taken.into_iter().map(Taken::figure).collect();
+            return taken;
         }
     }
 }
 
-/// What one side took.
+/// What one side took in each round, in nanoseconds.
 #[derive(Default)]
-struct Taken {
-    whole: Vec<f64>,
-    interrupted: Vec<f64>,
+pub struct Taken {
+    rounds: Vec<f64>,
+    /// Those without an interruption.
+    whole: usize,
+    least_whole: f64,
 }
 
 /// So many runs without an interruption are enough.
@@ -132,20 +134,30 @@ const ENOUGH: usize = 3;
 
 impl Taken {
     fn add(&mut self, time: f64, interrupted: bool) {
-        let list = if interrupted { &mut self.interrupted } else { &mut self.whole };
-        list.push(time);
+        self.rounds.push(time);
+        if !interrupted {
+            self.least_whole = if self.whole == 0 { time } else { time.min(self.least_whole) };
+            self.whole += 1;
+        }
     }
 
     /// The least of the runs without an interruption; where there are hardly any, the median of
-    /// the others. (Their least is none to trust: the system's account of a thread's time is off
-    /// by some microseconds, either way.)
-    fn figure(mut self) -> f64 {
-        if self.whole.len() >= ENOUGH || self.interrupted.is_empty() {
-            return self.whole.into_iter().fold(f64::INFINITY, f64::min);
-        }
-        self.interrupted.sort_by(f64::total_cmp);
-        self.interrupted[self.interrupted.len() / 2]
+    /// all. (The least of the others is none to trust: the system's account of a thread's time is
+    /// off by some microseconds, either way.)
+    pub fn figure(&self) -> f64 {
+        if self.whole >= ENOUGH { self.least_whole } else { median(self.rounds.clone()) }
     }
+}
+
+/// The median, over the rounds, of what is worked out from each side's time in it.
+pub fn median_of(taken: &[Taken], quotient: impl Fn(&[f64]) -> f64) -> f64 {
+    let round = |at| taken.iter().map(|side| side.rounds[at]).collect::<Vec<f64>>();
+    median((0..taken[0].rounds.len()).map(|at| quotient(&round(at))).collect())
+}
+
+fn median(mut figures: Vec<f64>) -> f64 {
+    figures.sort_by(f64::total_cmp);
+    figures[figures.len() / 2]
 }
 
 /// Nanoseconds from which on a run is long, and may well be interrupted: then it is watched. That
