@@ -1,6 +1,7 @@
 //! Measures the proved library against the original Rust text. README.md has the commands.
 
 mod both;
+mod budget_rows;
 mod cache_rows;
 mod counts;
 mod figures;
@@ -22,6 +23,7 @@ const USAGE: &str = "\
 usage: bench [quick] all
        bench [quick] preflight [plain]
        bench least                   of several plain preflights on standard input
+       bench [quick] budget
        bench [quick] cache [WORD]    tables whose name has the word
        bench [quick] orders
        bench [quick] moves
@@ -52,6 +54,7 @@ fn run(budget: Budget, words: &[&str]) -> Result<(), String> {
     match words {
         ["all"] => {
             preflight_rows::print(budget);
+            budget_rows::print(budget);
             cache_rows::print(budget, "");
             cache_rows::print_orders(budget);
             cache_rows::print_moves(budget);
@@ -60,6 +63,7 @@ fn run(budget: Budget, words: &[&str]) -> Result<(), String> {
         }
         ["preflight"] => preflight_rows::print(budget),
         ["preflight", "plain"] => preflight_rows::print_plain(budget),
+        ["budget"] => budget_rows::print(budget),
         ["least"] => {
             let input = io::read_to_string(io::stdin()).map_err(|error| error.to_string())?;
             preflight_rows::print_least(&input)?;

@@ -1,8 +1,9 @@
 //! The proved library's functions, each with Rust's types around it and nothing else.
 
 use oracle::functions::{
-    netflow_pending_cache, netflow_pending_clear, netflow_pending_drain, netflow_pending_figures,
-    netflow_pending_open, netflow_pending_place_handed_out, netflow_pending_resize,
+    netflow_budget_new, netflow_budget_reserve, netflow_budget_rollback, netflow_pending_cache,
+    netflow_pending_clear, netflow_pending_drain, netflow_pending_figures, netflow_pending_open,
+    netflow_pending_place_handed_out, netflow_pending_resize,
     netflow_pending_restore_replay_suffix, netflow_pending_would_accept,
     netflow_preflight_ipfix_fixed, netflow_preflight_ipfix_variable, netflow_preflight_v9_fixed,
 };
@@ -157,4 +158,20 @@ pub fn place_handed_out(words: &[u64], bytes: &[u8], number: usize) -> (u32, [u6
         )
     };
     (answer, place)
+}
+
+#[inline(always)]
+pub fn budget_new(budget: &mut [u64; 7], max_values: u64, max_payload: u64) -> u32 {
+    unsafe { netflow_budget_new(budget, max_values, max_payload) }
+}
+
+#[inline(always)]
+pub fn reserve(budget: &mut [u64; 7], values: u64, payload: u64) -> u32 {
+    let mut excess = [0; 3];
+    unsafe { netflow_budget_reserve(budget, values, payload, &mut excess) }
+}
+
+#[inline(always)]
+pub fn rollback(budget: &mut [u64; 7], values: u64, payload: u64) -> u32 {
+    unsafe { netflow_budget_rollback(budget, values, payload) }
 }

@@ -127,3 +127,15 @@ unsafe extern "C" {
         place: *mut u64,
     ) -> u32;
 }
+
+// A budget is seven words. Each function answers a number; an excess is written with 23 and 24.
+unsafe extern "C" {
+    pub fn netflow_budget_new(budget: *mut [u64; 7], max_values: u64, max_payload: u64) -> u32;
+    pub fn netflow_budget_reserve(
+        budget: *mut [u64; 7],
+        values: u64,
+        payload: u64,
+        excess: *mut [u64; 3],
+    ) -> u32;
+    pub fn netflow_budget_rollback(budget: *mut [u64; 7], values: u64, payload: u64) -> u32;
+}
