@@ -1,11 +1,11 @@
 -- The steps by which a plan is made, from what their callees ensure. Assumes nothing.
 use mathlib.Core.Path.{_≡_, refl, sym, ap, _∙_}
-use mathlib.Core.Bool.{Bool, true, false, cond}
+use mathlib.Core.Bool.{Bool, true, false}
 use mathlib.Core.List.{List}
 use Prim.Native.Nat.{ℕ, _+_, _*_, _-_, _≤_, _<_}
 use native.Mathlib.Omega.{arith}
 use lib.Dec.{eqb, leb, ltb}
-use lib.ListN.{length, getD, set}
+use lib.ListN.{length, set}
 use borrow.Author.Tests.{eqb-true, lt-ltb, le-ltb, lt-leb, le-leb}
 use Rattle.config.specs.declared.Ttl.the-variants.{None}
 use Rattle.config.specs.declared.PendingFlowsConfig.{PendingFlowsConfig}
