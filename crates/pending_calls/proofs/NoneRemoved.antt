@@ -55,7 +55,8 @@ module _ (w : List ℕ) (n : ℕ) (ok : wellFormed w n ≡ true) where
   es = entriesFrom w entriesAt (entryCount w)
 
   pub entries-short : All (λ e. e .len ≤ lenMost) es
-  entries-short = placed-short 0 (limitsOf w .«max_total_bytes») lenMost es (total-short w n legal) (rows-placed w n legal)
+  entries-short =
+      placed-short 0 (limitsOf w .«max_total_bytes») lenMost es (total-short w n legal) (rows-placed w n legal)
 
   pub all-swept-stay : swept everything zeros es ≡ es
   all-swept-stay = everything-swept (rows-tied w n legal) entries-short

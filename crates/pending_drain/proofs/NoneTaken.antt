@@ -102,8 +102,8 @@ module _ (w b : List ℕ) (i : ℕ) (ok : wellFormed w (length b) ≡ true) {l :
         let q : StayTest = unexpired (l .ttl) clock a in
         let rows : entriesFrom w entriesAt (f .entries) ≡ es = rw figures in
         rw rows
-        (none-skipped q es labels-small (all-stay q es refl (none-expired (l .ttl) clock a es (rw rows at (none .all-live)))
-        (entries-short w (length b) ok)))
+        (none-skipped q es labels-small (all-stay q es refl
+        (none-expired (l .ttl) clock a es (rw rows at (none .all-live))) (entries-short w (length b) ok)))
 
     nothing-skipped : zeros ≡ skipping zeros (recordsFrom w (p + recordWords * f .templates) (f .chance))
     unfolding setEach recordsFrom
@@ -114,7 +114,8 @@ module _ (w b : List ℕ) (i : ℕ) (ok : wellFormed w (length b) ≡ true) {l :
         kept′ r →
         TakesOut (l .ttl) clock a p f w w′ r
     none-taken {w′} {kept′} {r} done =
-        let whole : swept everything zeros (entriesFrom w entriesAt (f .entries)) ≡ entriesFrom w entriesAt (f .entries) =
+        let whole : swept everything zeros (entriesFrom w entriesAt (f .entries))
+        ≡ entriesFrom w entriesAt (f .entries) =
         rw figures (all-swept-stay w (length b) ok) in
         taken-out (l .ttl) clock a p f w w′ r nothing-skipped
         (removes-alike (whole ∙ sym kept-whole)

@@ -5,7 +5,8 @@ use Rattle.table_records.proofs.choosing.counts_by_label.Statement.{sta
 use Rattle.table_records.proofs.choosing.counts_by_label.Tie as tie
 
 abbrev Inv-loop : tie.InvT-loop
-Inv-loop words from records sums₀ left₀ p₀ sums left p = EachSet (λ r. cappedCount (r .count)) words sums₀ sums from records p left
+Inv-loop words from records sums₀ left₀ p₀ sums left p =
+    EachSet (λ r. cappedCount (r .count)) words sums₀ sums from records p left
 
 abbrev μ-loop : tie.MeasureT-loop
 μ-loop words from records sums₀ left₀ p₀ sums left p = left
