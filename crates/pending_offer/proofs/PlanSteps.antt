@@ -34,7 +34,6 @@ use Rattle.pending_offer.proofs.PlanReads.{evictions-read, none-evicted
 use Rattle.pending_offer.proofs.PlanLive.{label-is, count-is, live-is}
 use Rattle.pending_offer.proofs.PlanTables.{held-sized, total-held, held-are}
 
-
 -- ---- the least recent live template
 
 module _ (live skip : List ℕ) (rs : List TemplateRecord) (most n : ℕ) (counted : n ≡ liveRecords live rs) where
