@@ -66,7 +66,7 @@ sum-small {rs} {es} most small tied placed =
     )
 
 -- the total after an offer, where nothing went: s is the sum of the lengths
-module _ (gone before more s : ℕ) (known : gone ≡ 0 → s ≡ before + more) (none : gone ≡ 0) where
+module _ (removed before more s : ℕ) (known : removed ≡ 0 → s ≡ before + more) (none : removed ≡ 0) where
   pub known-fits : s ≤ 18446744073709551615 → before + more < 2 ^ 64
   known-fits fits = omega (arith, known none)
 

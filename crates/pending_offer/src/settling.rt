@@ -48,39 +48,39 @@ pub fn held_bodies(
 
 // The bytes that are held after an offer. Where none of the bodies that were held went, they are those from before, and
 // so many more.
-fn total_after(words: &[u64], entries: usize, gone: u64, before: u64, more: u64) -> u64
+fn total_after(words: &[u64], entries: usize, removed: u64, before: u64, more: u64) -> u64
     requires { ⌜ (entriesAt + entryWords * entries ≤ length (now words)) × (heldSum 1024 (entriesFrom (now words)
         entriesAt entries) ≤ 18446744073709551615) ⌝ }
-    requires { ⌜ (gone ≡ 0 → heldSum 1024 (entriesFrom (now words) entriesAt entries) ≡ before + more) ⌝ }
+    requires { ⌜ (removed ≡ 0 → heldSum 1024 (entriesFrom (now words) entriesAt entries) ≡ before + more) ⌝ }
     ensures { λ r. ⌜ r ≡ heldSum 1024 (entriesFrom (now (words .entry)) entriesAt entries) ⌝ }
 {
-    if gone == 0 {
+    if removed == 0 {
         return before + more;
     }
     held_bytes(words, entries, LABELS as u64)
 }
 
 // Writes the header after an offer: so many bodies more are cached and dropped, so many templates and bodies are held,
-// and nothing is handed out. Of the bodies that were held, `gone` went; those that are stored have `more` bytes.
+// and nothing is handed out. So many of the held bodies were `removed`; those that are stored have `more` bytes.
 pub fn settle(
     words: &mut [u64],
     limits: PendingFlowsConfig,
     figures: HeaderFigures,
     cached: u64,
     dropped: u64,
-    gone: u64,
+    removed: u64,
     more: u64,
     templates: usize,
     entries: usize,
 )
     requires { ⌜ (entriesAt + entryWords * entries ≤ length (now words)) × (heldSum 1024 (entriesFrom (now words)
         entriesAt entries) ≤ 18446744073709551615) ⌝ }
-    requires { ⌜ (gone ≡ 0 → heldSum 1024 (entriesFrom (now words) entriesAt entries) ≡ figures .total + more) ⌝ }
+    requires { ⌜ (removed ≡ 0 → heldSum 1024 (entriesFrom (now words) entriesAt entries) ≡ figures .total + more) ⌝ }
     ensures { λ _.
         ⌜ now (words .exit) ≡ overwritten (now (words .entry)) (headerOf limits (settledFigures figures cached dropped
         (heldSum 1024 (entriesFrom (now (words .entry)) entriesAt entries)) templates entries)) ⌝ }
 {
-    let total = total_after(words, entries, gone, figures.total, more);
+    let total = total_after(words, entries, removed, figures.total, more);
     let after = HeaderFigures {
         cached: raised(figures.cached, cached),
         dropped: raised(figures.dropped, dropped),
