@@ -17,7 +17,8 @@ use Rattle.pendlist_lines.specs.declared.TtlFound.the-variants.{Is, Neit
 use Rattle.pendlist_lines.specs.declared.Line.{Line}
 use Rattle.pendlist_lines.specs.declared.Line.the-variants.{Bad}
 use Rattle.pendlist_lines.specs.Grammar.{wordAt, isByte, numberOf, ttlOf, withNumber, withTtl, within16}
-use Rattle.pendlist_lines.specs.Grammar.{openOf, offerOf, drainOf, isCommand, fromWords, wordsOf, lineOf, inOrder}
+use Rattle.pendlist_lines.specs.Grammar.{openOf, offerOf, drainOf, isCommand, fromWords, wordsOf}
+use Rattle.pendlist_lines.specs.Grammar.{lineOf, inOrder}
 
 module _ {x y : NumberFound} (says : ℕ → Line) (read : x ≡ y) where
   pub no-number : x ≡ Nothing → Bad ≡ withNumber y says

@@ -136,8 +136,8 @@ longest = 255
 unfoldable pub lineOf : List ℕ → Line
 lineOf line = cond (leb (length line) longest) (fromWords (wordsOf line)) Bad
 
--- What is done with a line, given whether a cache is open: `c` opens one, once, and `o` and `d` need it ("an `o` or `d`
--- before any `c`, a second `c`").
+-- What is done with a line, given whether a cache is open: `c` opens one, once, and `o` and `d` need it ("an `o` or
+-- `d` before any `c`, a second `c`").
 abbrev pub inOrder : Bool → Line → Line
 inOrder opened (Open limits) = cond opened Bad (Open limits)
 inOrder opened (Offer offer) = cond opened (Offer offer) Bad

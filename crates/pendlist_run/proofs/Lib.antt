@@ -1,3 +1,3 @@
 pub mod Stepping
 pub mod Texts
-pub mod Courses
+pub mod Lists

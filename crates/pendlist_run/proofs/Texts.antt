@@ -86,9 +86,9 @@ module _ {text more : List ℕ} {most most′ at r r′ : ℕ} {out out′ out�
   }
 
 -- a blank, then the digits that were worked out elsewhere
-pub number-put : (n at k : ℕ) (given : List ℕ) {out out′ : List ℕ} → Fewest 10 1 n k → k ≤ 20 → take k given ≡ digits 10 k n →
-    k ≡ length (take k given) → at + 21 ≤ length out → out′ ≡ putAt (at + 1) (take k given) (set out at 32) →
-    Puts (numberText n) 21 at out (at + 1 + k) out′
+pub number-put : (n at k : ℕ) (given : List ℕ) {out out′ : List ℕ} → Fewest 10 1 n k → k ≤ 20 →
+    take k given ≡ digits 10 k n → k ≡ length (take k given) → at + 21 ≤ length out →
+    out′ ≡ putAt (at + 1) (take k given) (set out at 32) → Puts (numberText n) 21 at out (at + 1 + k) out′
 number-put n at k given {out} {out′} fewest few right counted h is =
     let blank : Puts (32 ∷ []) 1 at out (at + 1) (set out at 32) = byte-put 32 at out (omega arith) in
     let behind : Puts (take k given) k (at + 1) (set out at 32) (at + 1 + k) out′ =

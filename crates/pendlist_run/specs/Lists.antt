@@ -23,7 +23,7 @@ isBad (Told r) = false
 isBad Bad = true
 
 -- whether a cache is open after some lines, whether they ended with `bad`, and what the areas then hold
-pub record Course : Type 0 where
+pub record ListState : Type 0 where
   pub opened : Bool
   pub bad : Bool
   pub holds : Option Cache
@@ -34,12 +34,12 @@ module _ (bytes words : ℕ) where
   lineStep line opened v = stepOf (inOrder opened (lineOf line)) bytes words v
 
   -- a line that is not `bad` leaves an open cache
-  unfoldable pub courseOf : List (List ℕ) → Bool → Option Cache → Course
-  courseOf [] opened v = record { opened = opened; bad = false; holds = v }
-  courseOf (line ∷ lines) opened v =
+  unfoldable pub afterLines : List (List ℕ) → Bool → Option Cache → ListState
+  afterLines [] opened v = record { opened = opened; bad = false; holds = v }
+  afterLines (line ∷ lines) opened v =
       let s = lineStep line opened v in
       cond (isBad (s .outcome)) (record { opened = opened; bad = true; holds = s .holds })
-      (courseOf lines true (s .holds))
+      (afterLines lines true (s .holds))
 
   -- what is written of the lines; nothing follows `bad`
   unfoldable pub rowsOf : List (List ℕ) → Bool → Option Cache → List ℕ
@@ -53,8 +53,12 @@ pub record RunsAt (opened : Bool) (text : List ℕ) (at : ℕ) (a : Areas) (r : 
   pub next : r .next ≡ at + length (firstLine (drop at text)) + 1
   pub runs : RunsLine opened (firstLine (drop at text)) a (r .outcome) a′
 
+-- the same, in these areas
+abbrev pub afterText : Bool → List ℕ → Areas → ListState
+afterText opened text a = afterLines (length (a .bytes)) (length (a .words)) (linesOf text) opened (view a)
+
 -- Carrying out the lines of a text.
 pub record RunsText (opened : Bool) (text : List ℕ) (a : Areas) (r : Progress) (a′ : Areas) : Type 0 where
-  pub open-after : r .opened ≡ courseOf (length (a .bytes)) (length (a .words)) (linesOf text) opened (view a) .opened
-  pub bad-after : r .bad ≡ courseOf (length (a .bytes)) (length (a .words)) (linesOf text) opened (view a) .bad
-  pub holds : view a′ ≡ courseOf (length (a .bytes)) (length (a .words)) (linesOf text) opened (view a) .holds
+  pub open-after : r .opened ≡ afterText opened text a .opened
+  pub bad-after : r .bad ≡ afterText opened text a .bad
+  pub holds : view a′ ≡ afterText opened text a .holds

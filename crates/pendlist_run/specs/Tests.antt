@@ -30,13 +30,13 @@ pub document-table :
     table "c 2 2 10 16 100\no 300 6 0\no 301 8 1\no 300 4 2\nd 301 3\n"
     ≡ bytesOf "o 0 1 6 1 0\no 0 2 14 2 0\no 0 2 12 3 1\nd 1 1 4 3 1\n"
 unfolding limitsNumber areasHold configNumber wordsOf isByte allDigits valueFrom numberFrom numberOf ttlOf withNumber
-    withTtl within16 openOf offerOf drainOf isCommand fromWords lineOf linesOf ramp evicted evictions pruned step2 step3
-    step4 step5 addNewest step4or5 afterStep3 afterStep2 steps2to5 appended refusedSize settled offered drained figures
-    opening rowAfter stepOf placesFrom decimalOf numbersText rowsOf
+    withTtl within16 openOf offerOf drainOf isCommand fromWords lineOf linesOf ramp evicted evictions pruned step2
+    step3 step4 step5 addNewest step4or5 afterStep3 afterStep2 steps2to5 appended refusedSize settled offered drained
+    figures opening rowAfter stepOf placesFrom decimalOf numbersText rowsOf
 document-table = refl
 
--- A last line without a newline is a line. Nothing follows `bad`: an `o` or a `d` before `c`, a second `c`, a refused `c`,
--- a length above 65,535, an empty line, a carriage return.
+-- A last line without a newline is a line. Nothing follows `bad`: an `o` or a `d` before `c`, a second `c`, a refused
+-- `c`, a length above 65,535, an empty line, a carriage return.
 pub ends-right :
     map table
     ("" ∷ "c 2 2 10 16 -" ∷ "c 2 2 10 16 -\no 300 6 0" ∷ "o 300 6 0\nc 2 2 10 16 -\n" ∷ "d 300 0\n"
@@ -46,7 +46,7 @@ pub ends-right :
     ("" ∷ "" ∷ "o 0 1 6 1 0\n" ∷ "bad\n" ∷ "bad\n" ∷ "o 0 1 6 1 0\nbad\n" ∷ "bad\n" ∷ "bad\n" ∷ "bad\n" ∷ "bad\n"
     ∷ [])
 unfolding limitsNumber areasHold configNumber wordsOf isByte allDigits valueFrom numberFrom numberOf ttlOf withNumber
-    withTtl within16 openOf offerOf drainOf isCommand fromWords lineOf linesOf ramp evicted evictions pruned step2 step3
-    step4 step5 addNewest step4or5 afterStep3 afterStep2 steps2to5 appended refusedSize settled offered drained figures
-    opening rowAfter stepOf placesFrom decimalOf numbersText rowsOf
+    withTtl within16 openOf offerOf drainOf isCommand fromWords lineOf linesOf ramp evicted evictions pruned step2
+    step3 step4 step5 addNewest step4or5 afterStep3 afterStep2 steps2to5 appended refusedSize settled offered drained
+    figures opening rowAfter stepOf placesFrom decimalOf numbersText rowsOf
 ends-right = refl

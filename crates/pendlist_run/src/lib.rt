@@ -1,5 +1,5 @@
-// The program `pendlist` of document 01: a list of calls on one cache, and the table of their answers. It reads standard
-// input and writes standard output as it goes, in bounded memory.
+// The program `pendlist` of document 01: a list of calls on one cache, and the table of their answers. It reads
+// standard input and writes standard output as it goes, in bounded memory.
 mod calls;
 mod rows;
 
@@ -64,7 +64,8 @@ fn write_text(out: &[u8], filled: usize)
     io::write_all(STDOUT_FILENO, &out[..filled]);
 }
 
-// Writes the text where it may have no room for another row, and answers how many of its bytes are still to be written.
+// Writes the text where it may have no room for another row, and answers how many of its bytes are still to be
+// written.
 fn make_room(out: &[u8], filled: usize) -> usize
     requires { ⌜ (filled ≤ length (now out)) × (107 ≤ length (now out)) ⌝ }
     ensures { λ r. ⌜ r + 107 ≤ length (now (out .entry)) ⌝ }

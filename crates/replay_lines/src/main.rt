@@ -1,5 +1,5 @@
-// Reads lines as the program `pendlist` does, and compares with what the list in stdin says. A row has what is expected
-// of a line, a bar, and the line:
+// Reads lines as the program `pendlist` does, and compares with what the list in stdin says. A row has what is
+// expected of a line, a bar, and the line:
 //     bad|LINE, c T B E M TTL|LINE, o ID LENGTH CLOCK|LINE, d ID CLOCK|LINE     what `parse_line` says
 //     1 ..|LINE     what `run_line` makes of it as the first line of an input
 //     2 ..|LINE     the same, after the line `c 2 2 10 16 100`
@@ -86,7 +86,7 @@ fn run_rows(text: &[u8]) -> Tally {
 // table, and one without a bar: a comparison that notices nothing would show.
 fn run_wrong_rows() {
     let tally = run_rows(
-        b"d 301 3|d 301 3\nbad|d 301 3\nd 301 4|d 301 3\nc 2 2 10 16 -|c 2 2 10 16 0\n1 open|o 300 6 0\n2 o 0 1 6 1 1|o 300 6 0\nbad\n",
+        b"d 1 3|d 1 3\nbad|d 1 3\nd 1 4|d 1 3\nc 2 2 9 9 -|c 2 2 9 9 0\n1 open|o 1 6 0\n2 o 0 1 6 1 1|o 1 6 0\nbad\n",
     );
     tally.print();
 }

@@ -1,5 +1,5 @@
 use lib.Seq.{length-take-le}
-use Rattle.pendlist_run.proofs.Courses.{whole-among}
+use Rattle.pendlist_run.proofs.Lists.{whole-among}
 use borrow.Author.Needs.{needs}
 use Rattle.pendlist_run.proofs.lines_among.Statement.{statement}
 use Rattle.pendlist_run.proofs.lines_among.Tie as tie

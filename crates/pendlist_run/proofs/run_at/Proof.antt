@@ -1,7 +1,7 @@
 use Prim.Native.Nat.{_+_, _≤_}
 use native.Mathlib.Omega.{arith}
 use lib.ListN.{length}
-use Rattle.pendlist_run.proofs.Courses.{line-counted, line-within, line-lent}
+use Rattle.pendlist_run.proofs.Lists.{line-counted, line-within, line-lent}
 use borrow.Author.Needs.{needs}
 use Rattle.pendlist_run.proofs.run_at.Statement.{statement}
 use Rattle.pendlist_run.proofs.run_at.Tie as tie

@@ -2,14 +2,14 @@ use Prim.Native.Nat.{_+_, _-_, _≤_}
 use mathlib.Core.Path.{_≡_}
 use lib.ListN.{length}
 use Rattle.pending_flows.specs.View.{areasOf}
-use Rattle.pendlist_run.proofs.Courses.{CourseAhead, course-begins, course-goes-on, course-ends, course-over}
+use Rattle.pendlist_run.proofs.Lists.{ListAhead, list-begins, list-goes-on, list-ends, list-over}
 use borrow.Author.Needs.{needs}
 use Rattle.pendlist_run.proofs.run_text.Statement.{statement}
 use Rattle.pendlist_run.proofs.run_text.Tie as tie
 
 abbrev Inv-loop : tie.InvT-loop
 Inv-loop words₀ bytes₀ text opened out₀ filled₀ opened₀ at₀ words bytes out filled opened' at =
-    (CourseAhead text opened (areasOf words₀ bytes₀) at opened' (areasOf words bytes))
+    (ListAhead text opened (areasOf words₀ bytes₀) at opened' (areasOf words bytes))
     × (filled + 107 ≤ 4096) × (length out ≡ 4096)
 
 abbrev μ-loop : tie.MeasureT-loop
@@ -19,7 +19,7 @@ buffer-requires : tie.Need-buffer-requires Inv-loop μ-loop
 buffer-requires c κs = search needs
 
 loop-holds : tie.Need-loop-holds Inv-loop μ-loop
-loop-holds c = search (course-begins, needs)
+loop-holds c = search (list-begins, needs)
 
 run-at-requires : tie.Need-run-at-requires Inv-loop μ-loop
 run-at-requires c κs = search needs
@@ -46,7 +46,7 @@ same-length-2 : tie.Need-same-length-2 Inv-loop μ-loop
 same-length-2 c = search needs
 
 returns : tie.Need-returns Inv-loop μ-loop
-returns c = search (course-ends, needs)
+returns c = search (list-ends, needs)
 
 slice-aggregate-make-room : tie.Need-slice-aggregate-make-room Inv-loop μ-loop
 slice-aggregate-make-room c = search needs
@@ -58,7 +58,7 @@ loop-less : tie.Need-loop-less Inv-loop μ-loop
 loop-less c = search needs
 
 loop-again : tie.Need-loop-again Inv-loop μ-loop
-loop-again c = search (course-goes-on, needs)
+loop-again c = search (list-goes-on, needs)
 
 slice-aggregate-write-text-2 : tie.Need-slice-aggregate-write-text-2 Inv-loop μ-loop
 slice-aggregate-write-text-2 c = search needs
@@ -73,7 +73,7 @@ same-length-4 : tie.Need-same-length-4 Inv-loop μ-loop
 same-length-4 c = search needs
 
 returns-2 : tie.Need-returns-2 Inv-loop μ-loop
-returns-2 c = search (course-over, needs)
+returns-2 c = search (list-over, needs)
 
 pub run-text-spec : {M : Type 1} → statement M
 run-text-spec =

@@ -9,7 +9,8 @@ use Rattle.pendlist_run.proofs.rows.put_row.Tie as tie
 
 -- the text keeps its length, and the newline has its place
 long : (c : tie.After-slice-known2) →
-    length (c .before .before .put-numbers .last .0) ≡ length (c .before .before .before .before .before .before .args .out .now)
+    length (c .before .before .put-numbers .last .0)
+    ≡ length (c .before .before .before .before .before .before .args .out .now)
 long c = c .before .before .put-numbers .kept .0 ∙ simp length-set
 
 end-fits : (c : tie.After-slice-known2) →
@@ -42,7 +43,8 @@ same-length c = simp length-set (long c)
 returns : tie.Need-returns
 returns c =
     let put : tie.After-put-numbers = c .before .before in
-    row-put _ _ _ _ (omega (arith, put .before .before .before .before .pre)) refl (put .put-numbers .ensures) (end-fits c)
+    row-put _ _ _ _ (omega (arith, put .before .before .before .before .pre)) refl (put .put-numbers .ensures)
+    (end-fits c)
 
 pub put-row-spec : {M : Type 1} → statement M
 put-row-spec =

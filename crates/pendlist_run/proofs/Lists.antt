@@ -12,18 +12,18 @@ use Rattle.pending_flows.specs.View.{Areas, view}
 use Rattle.pendlist_run.specs.declared.calls.Outcome.{Outcome}
 use Rattle.pendlist_run.specs.declared.LineDone.{LineDone}
 use Rattle.pendlist_run.specs.Steps.{Step, RunsLine}
-use Rattle.pendlist_run.specs.Lists.{isBad, Course, lineStep, courseOf, RunsAt, RunsText}
+use Rattle.pendlist_run.specs.Lists.{isBad, ListState, lineStep, afterLines, RunsAt, RunsText}
 
 -- From `at` on the list goes as the whole does from its front; the areas keep their lengths.
-pub record CourseAhead (text : List ℕ) (opened₀ : Bool) (a₀ : Areas) (at : ℕ) (opened : Bool) (a : Areas)
+pub record ListAhead (text : List ℕ) (opened₀ : Bool) (a₀ : Areas) (at : ℕ) (opened : Bool) (a : Areas)
     : Type 0 where
-  pub ahead : courseOf (length (a₀ .bytes)) (length (a₀ .words)) (linesOf text) opened₀ (view a₀)
-      ≡ courseOf (length (a₀ .bytes)) (length (a₀ .words)) (linesOf (drop at text)) opened (view a)
+  pub ahead : afterLines (length (a₀ .bytes)) (length (a₀ .words)) (linesOf text) opened₀ (view a₀)
+      ≡ afterLines (length (a₀ .bytes)) (length (a₀ .words)) (linesOf (drop at text)) opened (view a)
   pub words-long : length (a .words) ≡ length (a₀ .words)
   pub bytes-long : length (a .bytes) ≡ length (a₀ .bytes)
 
-pub course-begins : (text : List ℕ) (opened : Bool) (a : Areas) → CourseAhead text opened a 0 opened a
-course-begins text opened a = record { ahead = refl; words-long = refl; bytes-long = refl }
+pub list-begins : (text : List ℕ) (opened : Bool) (a : Areas) → ListAhead text opened a 0 opened a
+list-begins text opened a = record { ahead = refl; words-long = refl; bytes-long = refl }
 
 -- the first line of a text lies within it, and so does the place behind it
 pub line-counted : (s : List ℕ) {end : ℕ} → end ≡ length (firstLine s) → end ≡ length (take end s)
@@ -55,17 +55,17 @@ line-lent opened text at end e done =
     record { next = ap (λ (n : ℕ). at + n + 1) ends; runs = rw (whole, front) at done }
 
 module _ {text : List ℕ} {opened₀ opened : Bool} {a₀ a : Areas} {at : ℕ}
-    (inv : CourseAhead text opened₀ a₀ at opened a) where
-  pub course-over : length text ≤ at → RunsText opened₀ text a₀ (record { opened = opened; bad = false }) a
-  unfolding courseOf linesOf
-  course-over h =
+    (inv : ListAhead text opened₀ a₀ at opened a) where
+  pub list-over : length text ≤ at → RunsText opened₀ text a₀ (record { opened = opened; bad = false }) a
+  unfolding afterLines linesOf
+  list-over h =
       let none : drop at text ≡ [] = drop-of-length-le text h in
-      let all : courseOf (length (a₀ .bytes)) (length (a₀ .words)) (linesOf text) opened₀ (view a₀)
+      let all : afterLines (length (a₀ .bytes)) (length (a₀ .words)) (linesOf text) opened₀ (view a₀)
       ≡ record { opened = opened; bad = false; holds = view a } = inv .ahead ∙ rw none in
       record {
-        open-after = sym (ap (λ (k : Course). k .opened) all);
-        bad-after = sym (ap (λ (k : Course). k .bad) all);
-        holds = sym (ap (λ (k : Course). k .holds) all);
+        open-after = sym (ap (λ (k : ListState). k .opened) all);
+        bad-after = sym (ap (λ (k : ListState). k .bad) all);
+        holds = sym (ap (λ (k : ListState). k .holds) all);
       }
 
   -- the line at this place, and the others
@@ -87,11 +87,11 @@ module _ {text : List ℕ} {opened₀ opened : Bool} {a₀ a : Areas} {at : ℕ}
     unfolding step
     holds-right = done .runs .holds ∙ rw (inv .bytes-long, inv .words-long)
 
-    pub course-goes-on : {bad : Bool} → length (a′ .words) ≡ length (a .words) →
+    pub list-goes-on : {bad : Bool} → length (a′ .words) ≡ length (a .words) →
         length (a′ .bytes) ≡ length (a .bytes) → bad ≡ isBad (r .outcome) → bad ≡ false →
-        CourseAhead text opened₀ a₀ (r .next) true a′
-    unfolding courseOf step
-    course-goes-on {bad} w b tested e =
+        ListAhead text opened₀ a₀ (r .next) true a′
+    unfolding afterLines step
+    list-goes-on {bad} w b tested e =
         let good : isBad (step .outcome) ≡ false = rw (← outcome-right) (sym tested ∙ e) in
         record {
           ahead = inv .ahead ∙ rw (lines-ahead, good, holds-right);
@@ -99,16 +99,16 @@ module _ {text : List ℕ} {opened₀ opened : Bool} {a₀ a : Areas} {at : ℕ}
           bytes-long = b ∙ inv .bytes-long;
         }
 
-    pub course-ends : {bad : Bool} → bad ≡ isBad (r .outcome) → bad ≡ true →
+    pub list-ends : {bad : Bool} → bad ≡ isBad (r .outcome) → bad ≡ true →
         RunsText opened₀ text a₀ (record { opened = opened; bad = true }) a′
-    unfolding courseOf step
-    course-ends {bad} tested e =
+    unfolding afterLines step
+    list-ends {bad} tested e =
         let ends : isBad (step .outcome) ≡ true = rw (← outcome-right) (sym tested ∙ e) in
-        let all : courseOf (length (a₀ .bytes)) (length (a₀ .words)) (linesOf text) opened₀ (view a₀)
+        let all : afterLines (length (a₀ .bytes)) (length (a₀ .words)) (linesOf text) opened₀ (view a₀)
         ≡ record { opened = opened; bad = true; holds = step .holds } =
         inv .ahead ∙ rw (lines-ahead, ends) in
         record {
-          open-after = sym (ap (λ (k : Course). k .opened) all);
-          bad-after = sym (ap (λ (k : Course). k .bad) all);
-          holds = holds-right ∙ sym (ap (λ (k : Course). k .holds) all);
+          open-after = sym (ap (λ (k : ListState). k .opened) all);
+          bad-after = sym (ap (λ (k : ListState). k .bad) all);
+          holds = holds-right ∙ sym (ap (λ (k : ListState). k .holds) all);
         }
