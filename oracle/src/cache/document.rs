@@ -48,6 +48,7 @@ pub fn lists() -> Vec<Vec<Call>> {
         refused_openings(),
     ];
     lists.extend(endings_of_the_chance());
+    lists.extend(where_the_original_loses_a_body());
     lists
 }
 
@@ -155,6 +156,44 @@ fn endings_of_the_chance() -> impl Iterator<Item = Vec<Call>> {
         let opening = open(limits(2, 2, 2, 4, None));
         vec![opening, offer(300, 1, 0), offer(301, 1, 0), drain(300, 0), ending, put_back(300, 1)]
     })
+}
+
+/// The smallest inputs of `faults.rs`: a put-back there is 25, and nothing changes.
+fn where_the_original_loses_a_body() -> [Vec<Call>; 6] {
+    let refilled = [offer(300, 1, 0), drain(300, 0), offer(301, 1, 0), put_back(300, 1)];
+    [
+        vec![
+            open(limits(1, 1, 1, 1, None)),
+            offer(300, 0, 0),
+            drain(300, 0),
+            offer(300, 0, 0),
+            put_back(300, 1),
+        ],
+        vec![
+            open(limits(1, 1, 2, 2, None)),
+            offer(300, 2, 0),
+            drain(300, 0),
+            offer(300, 1, 0),
+            put_back(300, 1),
+        ],
+        [&[open(limits(1, 1, 1, 1, None))], &refilled[..]].concat(),
+        [&[open(limits(2, 1, 1, 1, None))], &refilled[..]].concat(),
+        vec![
+            open(limits(1, 2, 2, 2, None)),
+            offer(300, 2, 0),
+            offer(300, 0, 0),
+            drain(300, 0),
+            Call::Resize(limits(1, 1, 1, 1, None)),
+            put_back(300, 2),
+        ],
+        vec![
+            open(limits(2, 1, 1, 1, None)),
+            offer(300, 0, 0),
+            offer(301, 1, 0),
+            drain(300, 0),
+            put_back(301, 1),
+        ],
+    ]
 }
 
 /// And the new TTL drops nothing.
