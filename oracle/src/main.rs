@@ -14,6 +14,7 @@ usage: oracle record-framing FILE
        oracle record-pendlist LIST TABLE [SEED [LINES]]
        oracle compare-framing [SEED [COUNT]]   (feature live)
        oracle compare-cache [SEED [LISTS]]     (feature live)
+       oracle compare-cache-defaults [SEED [CALLS]]   (feature live)
        oracle damage-cache [SEED [TRIALS]]     (feature live)
        oracle memory-cache [SEED [TRIALS]]     (feature live)";
 
@@ -63,6 +64,11 @@ fn run(arguments: &[&str]) -> Result<ExitCode, String> {
         ["compare-cache", rest @ ..] => {
             let (seed, lists) = seed_and_count(rest, cache::compare::DEFAULTS)?;
             cache::compare::run(seed, lists)
+        }
+        #[cfg(feature = "live")]
+        ["compare-cache-defaults", rest @ ..] => {
+            let (seed, calls) = seed_and_count(rest, cache::compare::DEFAULT_LIMITS_DEFAULTS)?;
+            cache::compare::run_default_limits(seed, calls)
         }
         #[cfg(feature = "live")]
         ["damage-cache", rest @ ..] => {

@@ -18,20 +18,21 @@ use std::time::{Duration, Instant};
 /// Seed and number of small lists.
 pub const DEFAULTS: (u64, u64) = (1, 200_000);
 
-const DEFAULT_LIMITS_CALLS: u64 = 20_000;
-
-/// Above this many bytes held, their bytes are compared now and then only.
-const FEW_BYTES: u64 = 65_536;
-const NOW_AND_THEN: usize = 256;
+/// Seed and number of calls in each list at the default limits.
+pub const DEFAULT_LIMITS_DEFAULTS: (u64, u64) = (1, 20_000);
 
 pub fn run(seed: u64, lists: u64) -> Result<ExitCode, String> {
     let parts = [
         Part::Exhaustive,
         Part::Small { seed, lists },
         Part::Middle { seed },
-        Part::Defaults { seed, calls: DEFAULT_LIMITS_CALLS },
+        Part::Defaults { seed, calls: DEFAULT_LIMITS_DEFAULTS.1 },
     ];
     run_on(Blocks::Guarded, &parts)
+}
+
+pub fn run_default_limits(seed: u64, calls: u64) -> Result<ExitCode, String> {
+    run_on(Blocks::Guarded, &[Part::Defaults { seed, calls }])
 }
 
 pub fn run_on(blocks: Blocks, parts: &[Part]) -> Result<ExitCode, String> {
@@ -163,7 +164,6 @@ impl Comparison {
         expected: Answer,
         keeps: bool,
     ) -> Result<(), String> {
-        let keeps = keeps && self.lent.areas().bytes <= FEW_BYTES;
         if keeps {
             self.before.copy_from(&self.lent);
         }
@@ -193,10 +193,9 @@ impl Comparison {
         }
         let table = layout::read(self.lent.words(), self.lent.bytes().len())
             .map_err(|fault| format!("the port leaves a damaged cache: {fault}"))?;
-        let with_bytes = table.total <= FEW_BYTES || self.calls.len().is_multiple_of(NOW_AND_THEN);
         let state = run.cache.state();
         let limits = run.account.limits;
-        if !is_state(&table, self.lent.bytes(), &state, &limits, with_bytes)
+        if !is_state(&table, self.lent.bytes(), &state, &limits)
             || table.handed.as_ref().is_some_and(|handed| handed.id != run.account.chance.id)
         {
             return Err(format!("expected {state:?} with {limits:?}, the port holds {table:?}"));
@@ -236,18 +235,12 @@ fn figures(state: &State<'_>) -> [u64; 6] {
 }
 
 /// Whether the areas hold what the original holds.
-fn is_state(
-    table: &Table,
-    bytes: &[u8],
-    state: &State<'_>,
-    limits: &Limits,
-    with_bytes: bool,
-) -> bool {
-    let same = |entries: &[Entry], bodies: &[HeldBody<'_>], with_bytes: bool| {
+fn is_state(table: &Table, bytes: &[u8], state: &State<'_>, limits: &Limits) -> bool {
+    let same = |entries: &[Entry], bodies: &[HeldBody<'_>]| {
         entries.len() == bodies.len()
             && entries.iter().zip(bodies).all(|(entry, body)| {
                 (entry.length, entry.clock) == (body.bytes.len() as u64, body.clock)
-                    && (!with_bytes || entry.bytes(bytes) == body.bytes)
+                    && entry.bytes(bytes) == body.bytes
             })
     };
     let handed = table.handed.as_ref().map_or(&[][..], |handed| &handed.bodies);
@@ -255,7 +248,7 @@ fn is_state(
         && (table.total, table.cached, table.dropped) == (state.bytes, state.cached, state.dropped)
         && table.held.len() == state.held.len()
         && table.held.iter().zip(&state.held).all(|(record, template)| {
-            record.id == template.id && same(&record.bodies, &template.bodies, with_bytes)
+            record.id == template.id && same(&record.bodies, &template.bodies)
         })
-        && same(handed, &state.handed, true)
+        && same(handed, &state.handed)
 }

@@ -6,10 +6,6 @@ use super::call::{Answer, Call};
 use super::original::{Cache, HeldBody, State};
 use crate::numbers::DONE;
 
-/// Above this many bytes held, their bytes are compared now and then only.
-const FEW_BYTES: u64 = 65_536;
-const NOW_AND_THEN: u64 = 256;
-
 /// A newly opened cache and what the calls since then made of it.
 pub struct Run {
     pub cache: Cache,
@@ -82,21 +78,19 @@ impl Run {
     fn is_accounted(&self, state: &State<'_>) -> bool {
         let Account { held, chance, cached, dropped, .. } = &self.account;
         let bytes = self.account.bytes();
-        let with_bytes =
-            bytes <= FEW_BYTES || (self.calls.len() as u64).is_multiple_of(NOW_AND_THEN);
-        let same = |seen: &[HeldBody<'_>], bodies: &[Body], with_bytes: bool| {
+        let same = |seen: &[HeldBody<'_>], bodies: &[Body]| {
             seen.len() == bodies.len()
                 && seen.iter().zip(bodies).all(|(seen, body)| {
                     let figures = (seen.offer, seen.bytes.len() as u64, seen.clock);
                     figures == (body.offer, body.length, body.clock)
-                        && (!with_bytes || is_body(seen.offer, seen.bytes))
+                        && is_body(seen.offer, seen.bytes)
                 })
         };
         (state.bytes, state.cached, state.dropped) == (bytes, *cached, *dropped)
             && state.held.len() == held.len()
             && state.held.iter().zip(held).all(|(seen, template)| {
-                seen.id == template.id && same(&seen.bodies, &template.bodies, with_bytes)
+                seen.id == template.id && same(&seen.bodies, &template.bodies)
             })
-            && same(&state.handed, &chance.bodies, true)
+            && same(&state.handed, &chance.bodies)
     }
 }
