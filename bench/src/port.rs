@@ -11,7 +11,7 @@ use oracle::original::Limits;
 
 /// Takes a body, widths and a record limit, and writes three words.
 pub type Preflight =
-    unsafe extern "C" fn(*const u8, usize, *const u16, usize, u64, *mut u64) -> u32;
+    unsafe extern "C" fn(*const u8, usize, *const u16, usize, usize, *mut [u64; 3]) -> u32;
 
 pub const V9_FIXED: Preflight = netflow_preflight_v9_fixed;
 pub const IPFIX_FIXED: Preflight = netflow_preflight_ipfix_fixed;
@@ -31,7 +31,7 @@ pub fn preflight(
     let number = unsafe {
         let (body, body_len) = (body.as_ptr(), body.len());
         let (widths, widths_len) = (widths.as_ptr(), widths.len());
-        function(body, body_len, widths, widths_len, limit as u64, cost.as_mut_ptr())
+        function(body, body_len, widths, widths_len, limit, &mut cost)
     };
     (number, cost)
 }
@@ -136,9 +136,8 @@ pub fn figures(words: &[u64], bytes: &[u8]) -> (u32, [u64; 6]) {
     let mut figures = [0; 6];
     let (words, words_len) = (words.as_ptr(), words.len());
     let (bytes, bytes_len) = (bytes.as_ptr(), bytes.len());
-    let number = unsafe {
-        netflow_pending_figures(words, words_len, bytes, bytes_len, figures.as_mut_ptr())
-    };
+    let number =
+        unsafe { netflow_pending_figures(words, words_len, bytes, bytes_len, &mut figures) };
     (number, figures)
 }
 
@@ -148,14 +147,7 @@ pub fn place_handed_out(words: &[u64], bytes: &[u8], number: usize) -> (u32, [u6
     let (words, words_len) = (words.as_ptr(), words.len());
     let (bytes, bytes_len) = (bytes.as_ptr(), bytes.len());
     let answer = unsafe {
-        netflow_pending_place_handed_out(
-            words,
-            words_len,
-            bytes,
-            bytes_len,
-            number,
-            place.as_mut_ptr(),
-        )
+        netflow_pending_place_handed_out(words, words_len, bytes, bytes_len, number, &mut place)
     };
     (answer, place)
 }

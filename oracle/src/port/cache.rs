@@ -74,7 +74,7 @@ pub fn place_handed_out(number: u64, words: &[u64], bytes: &[u8]) -> Result<[u64
             bytes.as_ptr(),
             bytes.len(),
             number as usize,
-            place.as_mut_ptr(),
+            &mut place,
         )
     };
     values(refused, place)
@@ -90,7 +90,7 @@ pub fn figures(words: &[u64], bytes: &[u8]) -> Result<[u64; 6], u32> {
             words.len(),
             bytes.as_ptr(),
             bytes.len(),
-            figures.as_mut_ptr(),
+            &mut figures,
         )
     };
     values(refused, figures)
@@ -100,8 +100,7 @@ pub fn figures(words: &[u64], bytes: &[u8]) -> Result<[u64; 6], u32> {
 pub fn validate_config(limits: &Limits, areas: Areas) -> u32 {
     let ([t, b, e, m], ..) = figures_of(limits);
     let (words, bytes) = (areas.words as usize, areas.bytes as usize);
-    // SAFETY: numbers only.
-    unsafe { netflow_pending_validate_config(words, bytes, t, b, e, m) }
+    netflow_pending_validate_config(words, bytes, t, b, e, m)
 }
 
 fn figures_of(limits: &Limits) -> ([usize; 4], u32, u64) {

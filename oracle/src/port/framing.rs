@@ -20,8 +20,8 @@ pub fn preflight(case: &Case, cost: &mut [u64; 3]) -> u32 {
             case.body.len(),
             case.widths.as_ptr(),
             case.widths.len(),
-            case.max_records,
-            cost.as_mut_ptr(),
+            case.max_records as usize,
+            cost,
         )
     }
 }

@@ -2,6 +2,8 @@
 
 pub mod cache;
 pub mod framing;
+// The declarations are those of the crate for users, so that they stand once.
+#[path = "../../../rust/src/ffi/functions.rs"]
 pub mod functions;
 
 /// What an area for answers holds before a call: a word that is not written must keep it.

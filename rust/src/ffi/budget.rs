@@ -1,50 +1,12 @@
 //! The budget.
 
+use super::functions::{
+    netflow_budget_is_exceeded, netflow_budget_limits, netflow_budget_materialize_pending,
+    netflow_budget_new, netflow_budget_remaining, netflow_budget_reserve, netflow_budget_reset,
+    netflow_budget_rollback, netflow_budget_set_limits, netflow_budget_take_exceeded,
+    netflow_budget_validate_pending_full_budget, netflow_budget_validate_pending_remaining,
+};
 use super::{Number, answered};
-
-unsafe extern "C" {
-    fn netflow_budget_limits(
-        max_records: u64,
-        max_values: u64,
-        max_payload_bytes: u64,
-        limits: *mut [u64; 3],
-    ) -> u32;
-    fn netflow_budget_new(budget: *mut [u64; 7], max_values: u64, max_payload_bytes: u64) -> u32;
-    fn netflow_budget_reset(budget: *mut [u64; 7]) -> u32;
-    fn netflow_budget_set_limits(
-        budget: *mut [u64; 7],
-        max_values: u64,
-        max_payload_bytes: u64,
-    ) -> u32;
-    fn netflow_budget_reserve(
-        budget: *mut [u64; 7],
-        values: u64,
-        payload_bytes: u64,
-        excess: *mut [u64; 3],
-    ) -> u32;
-    fn netflow_budget_rollback(budget: *mut [u64; 7], values: u64, payload_bytes: u64) -> u32;
-    fn netflow_budget_remaining(budget: *const [u64; 7], counts: *mut [u64; 2]) -> u32;
-    fn netflow_budget_is_exceeded(budget: *const [u64; 7], answer: *mut [u64; 1]) -> u32;
-    fn netflow_budget_take_exceeded(budget: *mut [u64; 7], excess: *mut [u64; 3]) -> u32;
-    fn netflow_budget_validate_pending_full_budget(
-        budget: *const [u64; 7],
-        number: u32,
-        cost: *const [u64; 3],
-    ) -> u32;
-    fn netflow_budget_validate_pending_remaining(
-        budget: *const [u64; 7],
-        number: u32,
-        cost: *const [u64; 3],
-    ) -> u32;
-    fn netflow_budget_materialize_pending(
-        budget: *mut [u64; 7],
-        number: u32,
-        cost: *const [u64; 3],
-        success: u32,
-        reported: *const [u64; 3],
-        remainder: *mut [u64; 1],
-    ) -> u32;
-}
 
 /// The number of a preflight that is none: 7.
 const INVALID: u32 = 7;

@@ -1,102 +1,14 @@
 //! The cache.
 
+use super::functions::{
+    netflow_pending_cache, netflow_pending_clear, netflow_pending_drain, netflow_pending_figures,
+    netflow_pending_open, netflow_pending_place_handed_out, netflow_pending_resize,
+    netflow_pending_restore_replay_suffix, netflow_pending_validate_config,
+    netflow_pending_would_accept,
+};
 use super::{Number, answered};
 use crate::config::PendingFlowsConfig;
 use std::time::Duration;
-
-unsafe extern "C" {
-    safe fn netflow_pending_validate_config(
-        words_len: usize,
-        bytes_len: usize,
-        max_pending_flows: usize,
-        max_entries_per_template: usize,
-        max_entry_size_bytes: usize,
-        max_total_bytes: usize,
-    ) -> u32;
-    fn netflow_pending_open(
-        words: *mut u64,
-        words_len: usize,
-        bytes: *const u8,
-        bytes_len: usize,
-        max_pending_flows: usize,
-        max_entries_per_template: usize,
-        max_entry_size_bytes: usize,
-        max_total_bytes: usize,
-        has_ttl: u32,
-        ttl: u64,
-    ) -> u32;
-    fn netflow_pending_cache(
-        words: *mut u64,
-        words_len: usize,
-        bytes: *mut u8,
-        bytes_len: usize,
-        id: u16,
-        body: *const u8,
-        body_len: usize,
-        clock: u64,
-    ) -> u32;
-    fn netflow_pending_drain(
-        words: *mut u64,
-        words_len: usize,
-        bytes: *const u8,
-        bytes_len: usize,
-        id: u16,
-        clock: u64,
-        handed_out: *mut u64,
-    ) -> u32;
-    fn netflow_pending_restore_replay_suffix(
-        words: *mut u64,
-        words_len: usize,
-        bytes: *const u8,
-        bytes_len: usize,
-        id: u16,
-        count: usize,
-    ) -> u32;
-    fn netflow_pending_resize(
-        words: *mut u64,
-        words_len: usize,
-        bytes: *mut u8,
-        bytes_len: usize,
-        max_pending_flows: usize,
-        max_entries_per_template: usize,
-        max_entry_size_bytes: usize,
-        max_total_bytes: usize,
-        has_ttl: u32,
-        ttl: u64,
-        dropped: *mut u64,
-    ) -> u32;
-    fn netflow_pending_clear(
-        words: *mut u64,
-        words_len: usize,
-        bytes: *const u8,
-        bytes_len: usize,
-    ) -> u32;
-    fn netflow_pending_would_accept(
-        words: *const u64,
-        words_len: usize,
-        bytes: *const u8,
-        bytes_len: usize,
-        id: u16,
-        length: usize,
-        clock: u64,
-        accepts: *mut u64,
-    ) -> u32;
-    fn netflow_pending_figures(
-        words: *const u64,
-        words_len: usize,
-        bytes: *const u8,
-        bytes_len: usize,
-        figures: *mut [u64; 6],
-    ) -> u32;
-    fn netflow_pending_place_handed_out(
-        words: *const u64,
-        words_len: usize,
-        bytes: *const u8,
-        bytes_len: usize,
-        number: usize,
-        place: *mut [u64; 2],
-    ) -> u32;
-}
 
 /// Nothing, or 1 to 5, where 5 is by these lengths of the areas too.
 pub fn validate_config(

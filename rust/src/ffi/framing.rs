@@ -1,33 +1,9 @@
 //! The preflight.
 
+use super::functions::{
+    netflow_preflight_ipfix_fixed, netflow_preflight_ipfix_variable, netflow_preflight_v9_fixed,
+};
 use super::{Number, answered};
-
-unsafe extern "C" {
-    fn netflow_preflight_v9_fixed(
-        body: *const u8,
-        body_len: usize,
-        widths: *const u16,
-        widths_len: usize,
-        max_records: usize,
-        cost: *mut [u64; 3],
-    ) -> u32;
-    fn netflow_preflight_ipfix_fixed(
-        body: *const u8,
-        body_len: usize,
-        widths: *const u16,
-        widths_len: usize,
-        max_records: usize,
-        cost: *mut [u64; 3],
-    ) -> u32;
-    fn netflow_preflight_ipfix_variable(
-        body: *const u8,
-        body_len: usize,
-        widths: *const u16,
-        widths_len: usize,
-        max_records: usize,
-        cost: *mut [u64; 3],
-    ) -> u32;
-}
 
 /// The readings of document 01.
 #[derive(Debug, Clone, Copy)]

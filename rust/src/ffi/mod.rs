@@ -10,6 +10,7 @@
 mod budget;
 mod cache;
 mod framing;
+mod functions;
 
 pub use budget::{BudgetWords, limits};
 pub use cache::{Areas, nanoseconds, validate_config};
