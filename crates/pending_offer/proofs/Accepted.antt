@@ -45,9 +45,9 @@ use Rattle.table_view.proofs.Added.{same-tally, same-labels-apart}
 use Rattle.table_view.proofs.Stored.{tied-legal}
 use Rattle.pending_calls.specs.declared.removal.Removed.{Removed}
 use Rattle.pending_calls.specs.Removal.{Removes}
-use Rattle.pending_offer.specs.declared.plan.OfferPlan.{OfferPlan}
+use Rattle.offer_plan.specs.declared.plan.OfferPlan.{OfferPlan}
+use Rattle.offer_plan.specs.Plan.{planTest, Plans}
 use Rattle.pending_offer.specs.Promises.{bodyOf}
-use Rattle.pending_offer.specs.Plan.{planTest, Plans}
 use Rattle.pending_offer.specs.Room.{roomEntries, roomBytes, roomPlace, newEntry, chosenLabel}
 use Rattle.pending_offer.proofs.Rooms.{Room, room-made}
 use Rattle.pending_offer.proofs.Settled.{outcome, settled-limited}

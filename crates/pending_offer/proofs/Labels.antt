@@ -35,8 +35,8 @@ use Rattle.table_view.proofs.Summed.{everything}
 use Rattle.pending_calls.specs.declared.removal.Removed.{Removed}
 use Rattle.pending_calls.specs.Removal.{Removes}
 use Rattle.pending_calls.proofs.Removed.{TiedRowsApart}
-use Rattle.pending_offer.specs.declared.plan.OfferPlan.{OfferPlan}
-use Rattle.pending_offer.specs.Plan.{planTest, Plans}
+use Rattle.offer_plan.specs.declared.plan.OfferPlan.{OfferPlan}
+use Rattle.offer_plan.specs.Plan.{planTest, Plans}
 use Rattle.pending_offer.specs.Room.{chosenLabel}
 use Rattle.pending_offer.proofs.Settled.{outcome, settled-limited}
 use Rattle.pending_offer.proofs.Left.{staying, held-legal, bodies-left, kept-other, templates-left}

@@ -42,8 +42,8 @@ use Rattle.pending_calls.specs.declared.removal.Removed.{Removed}
 use Rattle.pending_calls.specs.Removal.{Removes}
 use Rattle.pending_calls.proofs.Removed.{TiedRowsApart, placed-left, apart-left, rows-left, rows-tied}
 use Rattle.pending_calls.proofs.Removed.{rows-placed, few-templates, few-bodies, total-short}
-use Rattle.pending_offer.specs.declared.plan.OfferPlan.{OfferPlan}
-use Rattle.pending_offer.specs.Plan.{planTest, Plans}
+use Rattle.offer_plan.specs.declared.plan.OfferPlan.{OfferPlan}
+use Rattle.offer_plan.specs.Plan.{planTest, Plans}
 
 -- the entries that stay by a plan
 abbrev pub staying : List ℕ → ℕ → List ℕ → OfferPlan → List Entry

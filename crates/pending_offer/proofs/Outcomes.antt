@@ -21,8 +21,8 @@ use Rattle.cache_model.proofs.Plans.{bodies-planned}
 use Rattle.cache_model.proofs.Thinning.{thinned, hasId, firstId, none-either-way}
 use Rattle.pending_flows.specs.View.{cacheOf}
 use Rattle.table_view.proofs.Stored.{legal-limited}
-use Rattle.pending_offer.specs.declared.plan.OfferPlan.{OfferPlan}
-use Rattle.pending_offer.specs.Plan.{Plans}
+use Rattle.offer_plan.specs.declared.plan.OfferPlan.{OfferPlan}
+use Rattle.offer_plan.specs.Plan.{Plans}
 use Rattle.pending_offer.proofs.Settled.{outcome}
 
 none-both : (p q : Bool) → _≡_ {A = List Body} (cond p [] (cond q [] [])) []

@@ -29,9 +29,9 @@ use Rattle.pending_calls.specs.declared.removal.Removed.{Removed}
 use Rattle.pending_calls.specs.Promises.{Does}
 use Rattle.pending_calls.specs.Removal.{Removes}
 use Rattle.pending_calls.proofs.Removed.{TiedRows}
-use Rattle.pending_offer.specs.declared.plan.OfferPlan.{OfferPlan}
+use Rattle.offer_plan.specs.declared.plan.OfferPlan.{OfferPlan}
+use Rattle.offer_plan.specs.Plan.{planTest, Plans}
 use Rattle.pending_offer.specs.Promises.{bodyOf}
-use Rattle.pending_offer.specs.Plan.{planTest, Plans}
 use Rattle.pending_offer.specs.Settle.{settledFigures}
 use Rattle.pending_offer.proofs.HeldBodies.{held-most}
 use Rattle.pending_offer.proofs.Settled.{sum-small, outcome, drops-counted, bytes-counted}

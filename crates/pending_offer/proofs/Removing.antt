@@ -13,8 +13,8 @@ use Rattle.pending_flows.specs.Header.{figuresAt}
 use Rattle.pending_calls.specs.declared.removal.Removed.{Removed}
 use Rattle.pending_calls.specs.Removal.{everything, Removes}
 use Rattle.pending_calls.proofs.NoneRemoved.{removes-alike, all-swept-stay}
-use Rattle.pending_offer.specs.declared.plan.OfferPlan.{OfferPlan}
-use Rattle.pending_offer.specs.Plan.{planTest, KeepsAll}
+use Rattle.offer_plan.specs.declared.plan.OfferPlan.{OfferPlan}
+use Rattle.offer_plan.specs.Plan.{planTest, KeepsAll}
 
 pub zeros-long : (kept : List ℕ) → kept ≡ replicate 1024 0 → length kept ≡ 1024
 zeros-long kept e = ap length e ∙ length-replicate {A = ℕ} 1024 0

@@ -1,6 +1,5 @@
 // Offering a body to a pending flow cache (pending_flows.rs).
 mod offering;
-mod plan;
 mod settling;
 mod storing;
 

@@ -1,7 +1,7 @@
 use borrow.Author.Needs.{needs}
-use Rattle.pending_offer.proofs.PlanLive.{not-certain, certain}
-use Rattle.pending_offer.proofs.plan.nothing_goes.Statement.{statement}
-use Rattle.pending_offer.proofs.plan.nothing_goes.Tie as tie
+use Rattle.offer_plan.proofs.Live.{not-certain, certain}
+use Rattle.offer_plan.proofs.plan.nothing_goes.Statement.{statement}
+use Rattle.offer_plan.proofs.plan.nothing_goes.Tie as tie
 
 returns : tie.Need-returns
 returns c = not-certain _ _ _

@@ -1,8 +1,8 @@
 use borrow.Author.Needs.{needs}
-use Rattle.pending_offer.proofs.PlanLive.{count-right}
-use Rattle.pending_offer.proofs.PlanSteps.{held-decided, new-decided, new-full-decided}
-use Rattle.pending_offer.proofs.plan.decide.Statement.{statement}
-use Rattle.pending_offer.proofs.plan.decide.Tie as tie
+use Rattle.offer_plan.proofs.Live.{count-right}
+use Rattle.offer_plan.proofs.Steps.{held-decided, new-decided, new-full-decided}
+use Rattle.offer_plan.proofs.plan.decide.Statement.{statement}
+use Rattle.offer_plan.proofs.plan.decide.Tie as tie
 
 record-of-requires : tie.Need-record-of-requires
 record-of-requires c κs = search needs

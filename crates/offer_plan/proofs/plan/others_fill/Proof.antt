@@ -1,7 +1,7 @@
-use Rattle.pending_offer.proofs.PlanLive.{found-fills, none-fills}
+use Rattle.offer_plan.proofs.Live.{found-fills, none-fills}
 use borrow.Author.Needs.{needs}
-use Rattle.pending_offer.proofs.plan.others_fill.Statement.{statement}
-use Rattle.pending_offer.proofs.plan.others_fill.Tie as tie
+use Rattle.offer_plan.proofs.plan.others_fill.Statement.{statement}
+use Rattle.offer_plan.proofs.plan.others_fill.Tie as tie
 
 enum-told : tie.Need-enum-told
 enum-told c = search needs

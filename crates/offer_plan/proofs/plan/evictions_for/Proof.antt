@@ -1,8 +1,8 @@
-use Rattle.pending_offer.proofs.PlanSteps.{entries-within, bodies-few, records-within, room-already}
-use Rattle.pending_offer.proofs.PlanSteps.{room-made}
+use Rattle.offer_plan.proofs.Steps.{entries-within, bodies-few, records-within, room-already}
+use Rattle.offer_plan.proofs.Steps.{room-made}
 use borrow.Author.Needs.{needs}
-use Rattle.pending_offer.proofs.plan.evictions_for.Statement.{statement}
-use Rattle.pending_offer.proofs.plan.evictions_for.Tie as tie
+use Rattle.offer_plan.proofs.plan.evictions_for.Statement.{statement}
+use Rattle.offer_plan.proofs.plan.evictions_for.Tie as tie
 
 sub-room : tie.Need-sub-room
 sub-room c = search needs

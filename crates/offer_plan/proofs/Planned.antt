@@ -34,18 +34,18 @@ use Rattle.table_view.proofs.Tied.{Tied, entries-small}
 use Rattle.table_view.proofs.Swept.{bodyStays}
 use Rattle.table_view.proofs.Closed.{templates-take, templates-drop}
 use Rattle.table_view.proofs.AllStay.{none-skipped, all-stay}
-use Rattle.pending_offer.specs.declared.plan.OfferPlan.{OfferPlan}
-use Rattle.pending_offer.specs.declared.plan.Decision.{Decision}
-use Rattle.pending_offer.specs.Plan.{liveTest, liveAt, Decides, NothingGoes, planTest}
-use Rattle.pending_offer.specs.Plan.{KeepsAll, Plans}
-use Rattle.pending_offer.proofs.PlanReads.{Counted, here-read, others-read, alive-read, first-read}
-use Rattle.pending_offer.proofs.PlanLabels.{all-take, all-drop, Alike}
-use Rattle.pending_offer.proofs.PlanLabels.{alike, has-alike}
-use Rattle.pending_offer.proofs.PlanSums.{keep-unaged, all-skipped}
-use Rattle.pending_offer.proofs.PlanLive.{label-fresh}
-use Rattle.pending_offer.proofs.PlanSkips.{skipped, skipped-long, held-skipped, all-handed-skipped}
-use Rattle.pending_offer.proofs.PlanTables.{rows, labels-small, within, short, entries-few, some-templates}
-use Rattle.pending_offer.proofs.PlanTables.{held-counted, held-read, handed-are}
+use Rattle.offer_plan.specs.declared.plan.OfferPlan.{OfferPlan}
+use Rattle.offer_plan.specs.declared.plan.Decision.{Decision}
+use Rattle.offer_plan.specs.Plan.{liveTest, liveAt, Decides, NothingGoes, planTest}
+use Rattle.offer_plan.specs.Plan.{KeepsAll, Plans}
+use Rattle.offer_plan.proofs.RecordReads.{Counted, here-read, others-read, alive-read, first-read}
+use Rattle.offer_plan.proofs.Labels.{all-take, all-drop, Alike}
+use Rattle.offer_plan.proofs.Labels.{alike, has-alike}
+use Rattle.offer_plan.proofs.Sums.{keep-unaged, all-skipped}
+use Rattle.offer_plan.proofs.Live.{label-fresh}
+use Rattle.offer_plan.proofs.Skips.{skipped, skipped-long, held-skipped, all-handed-skipped}
+use Rattle.offer_plan.proofs.Tables.{rows, labels-small, within, short, entries-few, some-templates}
+use Rattle.offer_plan.proofs.Tables.{held-counted, held-read, handed-are}
 
 cond-and : {A : Type 0} (s t : Bool) (x y : A) → cond (s && t) x y ≡ cond s (cond t x y) y
 cond-and true t x y = refl

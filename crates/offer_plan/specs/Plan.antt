@@ -27,8 +27,8 @@ use Rattle.cache_model.specs.Offer.{accepted, refused}
 use Rattle.cache_model.proofs.Plans.{plan, thin}
 use Rattle.pending_flows.specs.View.{bodiesAt, cacheOf}
 use Rattle.table_view.proofs.Swept.{bodyStays}
-use Rattle.pending_offer.specs.declared.plan.OfferPlan.{OfferPlan}
-use Rattle.pending_offer.specs.declared.plan.Decision.{Decision}
+use Rattle.offer_plan.specs.declared.plan.OfferPlan.{OfferPlan}
+use Rattle.offer_plan.specs.declared.plan.Decision.{Decision}
 
 -- by this test the bodies that are not expired stay
 abbrev pub liveTest : Ttl → ℕ → StayTest

@@ -28,11 +28,11 @@ use Rattle.pending_flows.specs.declared.header.HeaderFigures.{HeaderFigures}
 use Rattle.pending_flows.specs.Header.{figuresAt}
 use Rattle.pending_flows.specs.View.{cacheOf}
 use Rattle.pending_flows.proofs.Questions as Questions
-use Rattle.pending_offer.specs.Plan.{liveTest, liveSums, liveIn, LiveRead}
-use Rattle.pending_offer.specs.Plan.{liveAt, othersFill, skippingFirst, Decides}
-use Rattle.pending_offer.proofs.PlanReads.{evictions-read, none-evicted}
-use Rattle.pending_offer.proofs.PlanLive.{label-is, count-is, live-is}
-use Rattle.pending_offer.proofs.PlanTables.{held-sized, total-held, held-are}
+use Rattle.offer_plan.specs.Plan.{liveTest, liveSums, liveIn, LiveRead}
+use Rattle.offer_plan.specs.Plan.{liveAt, othersFill, skippingFirst, Decides}
+use Rattle.offer_plan.proofs.RecordReads.{evictions-read, none-evicted}
+use Rattle.offer_plan.proofs.Live.{label-is, count-is, live-is}
+use Rattle.offer_plan.proofs.Tables.{held-sized, total-held, held-are}
 
 -- ---- the least recent live template
 

@@ -28,9 +28,9 @@ use Rattle.table_view.proofs.Tied.{Tied, words-tied}
 use Rattle.table_view.proofs.Swept.{Within, placed-within}
 use Rattle.table_view.proofs.Removed.{placed-short}
 use Rattle.table_view.proofs.Totals.{lens-total}
-use Rattle.pending_offer.specs.Plan.{liveTest, LiveRead}
-use Rattle.pending_offer.proofs.PlanReads.{Sized, Counted}
-use Rattle.pending_offer.proofs.PlanSums.{sizes-summed, live-summed}
+use Rattle.offer_plan.specs.Plan.{liveTest, LiveRead}
+use Rattle.offer_plan.proofs.RecordReads.{Sized, Counted}
+use Rattle.offer_plan.proofs.Sums.{sizes-summed, live-summed}
 
 -- no more templates go than there are
 pub evictions-few : (most more : ℕ) (ts : List Template) → evictions most more ts ≤ length ts

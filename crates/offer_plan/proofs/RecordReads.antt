@@ -22,7 +22,7 @@ use Rattle.cache_model.specs.Removal.{evictions, keptOf}
 use Rattle.cache_model.proofs.Thinning.{firstId}
 use Rattle.pending_flows.specs.View.{bodiesAt, templateAt, templatesAt}
 use Rattle.pending_flows.proofs.Templates.{length-templates}
-use Rattle.pending_offer.specs.Plan.{liveAt, othersFill}
+use Rattle.offer_plan.specs.Plan.{liveAt, othersFill}
 
 module _ (b : List ℕ) (es : List Entry) where
   -- `sizes` has the bytes of these records' bodies

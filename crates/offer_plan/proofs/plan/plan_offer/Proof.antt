@@ -1,10 +1,10 @@
-use Rattle.pending_offer.proofs.PlanSteps.{entries-within, bodies-few, records-within}
-use Rattle.pending_offer.proofs.PlanOffers.{held-scaled, handed-start, handed-within, leaving-few}
-use Rattle.pending_offer.proofs.PlanOffers.{leaving-scaled}
-use Rattle.pending_offer.proofs.PlanOffers.{stay-start, leaving-within, stay-within, live-read, plan-done}
+use Rattle.offer_plan.proofs.Steps.{entries-within, bodies-few, records-within}
+use Rattle.offer_plan.proofs.Offers.{held-scaled, handed-start, handed-within, leaving-few}
+use Rattle.offer_plan.proofs.Offers.{leaving-scaled}
+use Rattle.offer_plan.proofs.Offers.{stay-start, leaving-within, stay-within, live-read, plan-done}
 use borrow.Author.Needs.{needs}
-use Rattle.pending_offer.proofs.plan.plan_offer.Statement.{statement}
-use Rattle.pending_offer.proofs.plan.plan_offer.Tie as tie
+use Rattle.offer_plan.proofs.plan.plan_offer.Statement.{statement}
+use Rattle.offer_plan.proofs.plan.plan_offer.Tie as tie
 
 records-at-requires : tie.Need-records-at-requires
 records-at-requires c κs = search (bodies-few, needs)

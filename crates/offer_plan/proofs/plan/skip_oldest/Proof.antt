@@ -1,7 +1,7 @@
 use borrow.Author.Needs.{needs}
-use Rattle.pending_offer.proofs.PlanSteps.{oldest-skipped}
-use Rattle.pending_offer.proofs.plan.skip_oldest.Statement.{statement}
-use Rattle.pending_offer.proofs.plan.skip_oldest.Tie as tie
+use Rattle.offer_plan.proofs.Steps.{oldest-skipped}
+use Rattle.offer_plan.proofs.plan.skip_oldest.Statement.{statement}
+use Rattle.offer_plan.proofs.plan.skip_oldest.Tie as tie
 
 live-test-requires : tie.Need-live-test-requires
 live-test-requires c κs = search needs

@@ -22,7 +22,7 @@ use Rattle.pending_flows.specs.View.{bodyAt, bodiesAt}
 use Rattle.table_view.proofs.Swept.{bodyStays, Within, body-size, keep-alike}
 use Rattle.table_view.proofs.Summed.{label-bytes, label-count}
 use Rattle.table_view.proofs.Summed.{summed-count}
-use Rattle.pending_offer.specs.Plan.{liveTest}
+use Rattle.offer_plan.specs.Plan.{liveTest}
 
 -- whether a body of a label is not expired, or not of an aged label
 abbrev pub unaged : StayTest → ℕ → Body → Bool

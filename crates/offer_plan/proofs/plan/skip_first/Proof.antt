@@ -1,7 +1,7 @@
-use Rattle.pending_offer.proofs.PlanSteps.{first-stays, first-goes}
+use Rattle.offer_plan.proofs.Steps.{first-stays, first-goes}
 use borrow.Author.Needs.{needs}
-use Rattle.pending_offer.proofs.plan.skip_first.Statement.{statement}
-use Rattle.pending_offer.proofs.plan.skip_first.Tie as tie
+use Rattle.offer_plan.proofs.plan.skip_first.Statement.{statement}
+use Rattle.offer_plan.proofs.plan.skip_first.Tie as tie
 
 live-records-requires : tie.Need-live-records-requires
 live-records-requires c κs = search needs

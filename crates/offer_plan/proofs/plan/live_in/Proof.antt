@@ -1,7 +1,7 @@
 use borrow.Author.Needs.{needs}
-use Rattle.pending_offer.proofs.PlanLive.{none-live, counted-live, read-live}
-use Rattle.pending_offer.proofs.plan.live_in.Statement.{statement}
-use Rattle.pending_offer.proofs.plan.live_in.Tie as tie
+use Rattle.offer_plan.proofs.Live.{none-live, counted-live, read-live}
+use Rattle.offer_plan.proofs.plan.live_in.Statement.{statement}
+use Rattle.offer_plan.proofs.plan.live_in.Tie as tie
 
 enum-known-found : tie.Need-enum-known-found
 enum-known-found c = search needs

@@ -19,12 +19,12 @@ use Rattle.cache_model.specs.Removal.{evictions}
 use Rattle.pending_flows.specs.declared.header.HeaderFigures.{HeaderFigures}
 use Rattle.pending_flows.specs.Header.{figuresAt}
 use Rattle.pending_flows.specs.View.{cacheOf}
-use Rattle.pending_offer.specs.declared.plan.Decision.{Decision}
-use Rattle.pending_offer.specs.Plan.{liveSums, LiveRead, Decides, NothingGoes, Plans}
-use Rattle.pending_offer.proofs.PlanTables.{evicted-few, held-read, held-are, handed-are}
-use Rattle.pending_offer.proofs.PlanTables.{leaving-are, stay-are}
-use Rattle.pending_offer.proofs.PlanLabels.{all-drop}
-use Rattle.pending_offer.proofs.Planned.{plan-made}
+use Rattle.offer_plan.specs.declared.plan.Decision.{Decision}
+use Rattle.offer_plan.specs.Plan.{liveSums, LiveRead, Decides, NothingGoes, Plans}
+use Rattle.offer_plan.proofs.Tables.{evicted-few, held-read, held-are, handed-are}
+use Rattle.offer_plan.proofs.Tables.{leaving-are, stay-are}
+use Rattle.offer_plan.proofs.Labels.{all-drop}
+use Rattle.offer_plan.proofs.Planned.{plan-made}
 
 module _ (w b : List ℕ) (ok : wellFormed w (length b) ≡ true) (l : PendingFlowsConfig) (limits : l ≡ limitsOf w)
     (f : HeaderFigures) (figures : f ≡ figuresAt w) (p : ℕ) (from : p ≡ recordsAt l) where

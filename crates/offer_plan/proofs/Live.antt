@@ -19,9 +19,9 @@ use Rattle.table.specs.Table.{tally}
 use Rattle.table.specs.Reads.{recordOf, labelIn, countIn, labelOf, labelOrNone, countOf, liveCount}
 use Rattle.table.proofs.Lookups.{label-told, no-label-told, count-told, no-count-told}
 use Rattle.table_view.proofs.AllStay.{all-live, none-expired}
-use Rattle.pending_offer.specs.declared.plan.Decision.{Decision}
-use Rattle.pending_offer.specs.Plan.{liveSums, liveIn, FoundHas, CountRight, LiveRead}
-use Rattle.pending_offer.specs.Plan.{liveAt, othersFill, NothingGoes}
+use Rattle.offer_plan.specs.declared.plan.Decision.{Decision}
+use Rattle.offer_plan.specs.Plan.{liveSums, liveIn, FoundHas, CountRight, LiveRead}
+use Rattle.offer_plan.specs.Plan.{liveAt, othersFill, NothingGoes}
 
 -- ---- by what was found
 
