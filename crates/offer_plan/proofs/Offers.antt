@@ -5,7 +5,7 @@ use mathlib.Core.Bool.{Bool, true}
 use mathlib.Core.List.{List}
 use Prim.Native.Nat.{ℕ, _+_, _*_, _-_, _≤_, _<_}
 use native.Mathlib.Omega.{arith}
-use lib.ListN.{length, take, drop}
+use lib.ListN.{length, set, take, drop}
 use Rattle.config.specs.declared.PendingFlowsConfig.{PendingFlowsConfig}
 use Rattle.config.specs.Limits.{recordWords}
 use Rattle.table.specs.Layout.{limitsOf, heldCount, entryCount, chanceCount, entriesAt, recordsAt}
@@ -14,13 +14,14 @@ use Rattle.table.specs.WellFormed.{wellFormed}
 use Rattle.table.specs.Reads.{labelOf, labelOrNone}
 use Rattle.table.proofs.Facts.{LegalWords, words-say}
 use Rattle.table_entries.proofs.LabelSums.{zeros}
-use Rattle.table_records.specs.Choose.{skipping}
+use Rattle.table_records.specs.Choose.{skipAll, skipping}
 use Rattle.cache_model.specs.Removal.{evictions}
 use Rattle.pending_flows.specs.declared.header.HeaderFigures.{HeaderFigures}
 use Rattle.pending_flows.specs.Header.{figuresAt}
 use Rattle.pending_flows.specs.View.{cacheOf}
+use Rattle.offer_plan.specs.declared.plan.OfferPlan.{OfferPlan}
 use Rattle.offer_plan.specs.declared.plan.Decision.{Decision}
-use Rattle.offer_plan.specs.Plan.{liveSums, LiveRead, Decides, NothingGoes, Plans}
+use Rattle.offer_plan.specs.Plan.{liveSums, LiveRead, Decides, NothingGoes, skipOf, Plans}
 use Rattle.offer_plan.proofs.Tables.{evicted-few, held-read, held-are, handed-are}
 use Rattle.offer_plan.proofs.Tables.{leaving-are, stay-are}
 use Rattle.offer_plan.proofs.Labels.{all-drop}
@@ -100,19 +101,30 @@ module _ (w b : List ℕ) (ok : wellFormed w (length b) ≡ true) (l : PendingFl
           live = all-drop _ n (tableOf w .held) (all .live);
         })
 
-    pub plan-done : (id clock label : ℕ) (skip₀ skip₁ skip₂ skip′ : List ℕ) (d : Decision) (v : Bool) → skip₀ ≡ zeros →
-        skip₁ ≡ skipping skip₀ (recordsFrom w p n) →
-        skip₂ ≡ skipping skip₁ (recordsFrom w (p + recordWords * f .templates) (f .chance)) →
+    pub plan-done : (id clock label : ℕ) (d : Decision) (v : Bool) →
         Decides l id (liveSums (l .ttl) clock (entriesFrom w entriesAt (f .entries)))
-        (recordsFrom w (p + recordWords * n) (f .templates - n)) skip₂ skip′ d →
+        (recordsFrom w (p + recordWords * n) (f .templates - n)) d →
         label ≡ labelOrNone (labelOf id (recordsFrom w p (f .templates))) → (v ≡ true → NothingGoes n (f .chance) d) →
-        Plans w b id len clock skip′ (record { full = d .full; label = label; all = d .all; none = v })
-    plan-done id clock label skip₀ skip₁ skip₂ skip′ d v none leaving handed decided labelled certain =
-        let leaving-read : recordsFrom w p n ≡ take n (tableOf w .held) = rw start (leaving-are w b ok n few) in
+        Plans w b id len clock
+        (record { full = d .full; label = label; all = d .all; none = v; evicted = n; first = d .first })
+    plan-done id clock label d v decided labelled certain =
+        let held-rows : recordsFrom w p (f .templates) ≡ tableOf w .held = rw (start, held-many) (held-are w b ok) in
+        plan-made w b id len clock ok n goes d (rw (limits, entries-many, stay-read) at decided) label
+        (labelled ∙ rw held-rows) v (λ e. rw handed-many at (certain e)) few
+
+  -- the skips of a plan
+  module _ (plan : OfferPlan) (few : plan .evicted ≤ heldCount w) where
+    pub planned-within : p + recordWords * plan .evicted ≤ length w
+    planned-within = omega (arith, held-many, handed-within)
+
+    pub skips-set : (skip₀ skip₁ skip₂ skip′ : List ℕ) → skip₀ ≡ zeros →
+        skip₁ ≡ skipping skip₀ (recordsFrom w p (plan .evicted)) →
+        skip₂ ≡ skipping skip₁ (recordsFrom w (p + recordWords * f .templates) (f .chance)) →
+        skip′ ≡ set skip₂ (plan .first) skipAll → skip′ ≡ skipOf w plan
+    unfolding skipOf
+    skips-set skip₀ skip₁ skip₂ skip′ none leaving handed first =
+        let leaving-read : recordsFrom w p (plan .evicted) ≡ take (plan .evicted) (tableOf w .held) =
+        rw start (leaving-are w b ok (plan .evicted) few) in
         let handed-read : recordsFrom w (p + recordWords * f .templates) (f .chance) ≡ tableOf w .handed =
         rw (start, held-many, handed-many) (handed-are w b ok) in
-        let held-rows : recordsFrom w p (f .templates) ≡ tableOf w .held = rw (start, held-many) (held-are w b ok) in
-        let skips : skip₂ ≡ skipping (skipping zeros (take n (tableOf w .held))) (tableOf w .handed) =
-        handed ∙ rw (handed-read, leaving, leaving-read, none) in
-        plan-made w b id len clock ok n goes d skip′ (rw (limits, entries-many, stay-read, skips) at decided) label
-        (labelled ∙ rw held-rows) v (λ e. rw handed-many at (certain e))
+        first ∙ rw (handed, handed-read, leaving, leaving-read, none)

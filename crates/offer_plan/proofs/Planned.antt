@@ -3,18 +3,18 @@ use mathlib.Core.Path.{_≡_, refl, sym, ap, subst, _∙_}
 use mathlib.Core.Logic.{_≢_}
 use mathlib.Core.Bool.{Bool, true, false, not, _&&_, _||_, cond}
 use mathlib.Core.List.{List, [], _∷_, _++_}
-use Prim.Native.Nat.{ℕ, _<_}
+use Prim.Native.Nat.{ℕ, _≤_, _<_}
 use native.Mathlib.Omega.{arith}
 use lib.Dec.{eqb, leb, ltb}
 use lib.ListN.{length, getD, take, drop}
-use borrow.Author.Tests.{leb-true}
+use borrow.Author.Tests.{leb-true, ne-eqb}
 use Rattle.config.specs.declared.PendingFlowsConfig.{PendingFlowsConfig}
 use Rattle.config.specs.Age.{expiredAt}
 use Rattle.config.proofs.Tests.{and-right}
 use Rattle.config.proofs.Lists.{All, all-map, all-back}
 use Rattle.table.specs.declared.Entry.{Entry}
 use Rattle.table.specs.declared.TemplateRecord.{TemplateRecord}
-use Rattle.table.specs.Layout.{limitsOf, chanceCount}
+use Rattle.table.specs.Layout.{limitsOf, heldCount, chanceCount}
 use Rattle.table.specs.Table.{tableOf, index, recordsFrom}
 use Rattle.table.specs.WellFormed.{wellFormed}
 use Rattle.table.specs.Reads.{labelOf, labelOrNone, countOf}
@@ -23,7 +23,7 @@ use Rattle.table.proofs.FoundLabels.{found-alone}
 use Rattle.table_entries.specs.declared.StayTest.{StayTest}
 use Rattle.table_entries.specs.Sums.{summed}
 use Rattle.table_entries.proofs.LabelSums.{zeros}
-use Rattle.table_records.specs.Choose.{skipAll, setEach, skipping, liveRecords, firstLive}
+use Rattle.table_records.specs.Choose.{skipAll, setEach, liveRecords, firstLive}
 use Rattle.cache_model.specs.Bodies.{Body, Template, size, keep, bodiesOf, without, expired}
 use Rattle.cache_model.specs.Removal.{evictions, keptOf}
 use Rattle.cache_model.specs.Offer.{accepted, refused}
@@ -36,14 +36,14 @@ use Rattle.table_view.proofs.Closed.{templates-take, templates-drop}
 use Rattle.table_view.proofs.AllStay.{none-skipped, all-stay}
 use Rattle.offer_plan.specs.declared.plan.OfferPlan.{OfferPlan}
 use Rattle.offer_plan.specs.declared.plan.Decision.{Decision}
-use Rattle.offer_plan.specs.Plan.{liveTest, liveAt, Decides, NothingGoes, planTest}
+use Rattle.offer_plan.specs.Plan.{liveTest, liveAt, Decides, NothingGoes, planTest, skipOf}
 use Rattle.offer_plan.specs.Plan.{KeepsAll, Plans}
 use Rattle.offer_plan.proofs.RecordReads.{Counted, here-read, others-read, alive-read, first-read}
 use Rattle.offer_plan.proofs.Labels.{all-take, all-drop, Alike}
 use Rattle.offer_plan.proofs.Labels.{alike, has-alike}
 use Rattle.offer_plan.proofs.Sums.{keep-unaged, all-skipped}
 use Rattle.offer_plan.proofs.Live.{label-fresh}
-use Rattle.offer_plan.proofs.Skips.{skipped, skipped-long, held-skipped, all-handed-skipped}
+use Rattle.offer_plan.proofs.Skips.{none-set, held-skipped, all-handed-skipped}
 use Rattle.offer_plan.proofs.Tables.{rows, labels-small, within, short, entries-few, some-templates}
 use Rattle.offer_plan.proofs.Tables.{held-counted, held-read, handed-are}
 
@@ -92,9 +92,7 @@ module _ (w b : List ℕ) (id len clock : ℕ) where
   thin-at x j bs = refl
 
   module _ (ok : wellFormed w (length b) ≡ true) (n : ℕ) (evicted : n ≡ evictions (l .«max_total_bytes») len ts)
-      (d : Decision) (skip′ : List ℕ)
-      (decided : Decides l id live (drop n held) (skipping (skipping zeros (take n held)) (tableOf w .handed)) skip′
-      d) where
+      (d : Decision) (decided : Decides l id live (drop n held) d) where
     abbrev stay : List TemplateRecord
     stay = drop n held
 
@@ -168,13 +166,24 @@ module _ (w b : List ℕ) (id len clock : ℕ) where
     module _ (label : ℕ) (labelled : label ≡ labelOrNone (labelOf id held)) (v : Bool)
         (certain : v ≡ true → NothingGoes n (chanceCount w) d) where
       abbrev made : OfferPlan
-      made = record { full = d .full; label = label; all = d .all; none = v }
+      made = record { full = d .full; label = label; all = d .all; none = v; evicted = n; first = d .first }
 
       abbrev leaving : List TemplateRecord
       leaving = take n held
 
-      abbrev skips : List ℕ
-      skips = skipped leaving (tableOf w .handed) goes (firstLive live stay)
+      -- the label that is evicted for room, where one is
+      first-told : (k : ℕ) → k < 1024 → eqb k (d .first) ≡ goes && eqb k (firstLive live stay)
+      first-told k small =
+          rw (decided .first) (by-tests (d .all) (leb (l .«max_pending_flows») (liveRecords live stay)))
+        where
+          none : eqb k 1024 ≡ false
+          none = ne-eqb k 1024 (λ e. omega arith)
+
+          by-tests : (s t : Bool) →
+              eqb k (cond s (cond t (firstLive live stay) 1024) 1024) ≡ (s && t) && eqb k (firstLive live stay)
+          by-tests true true = refl
+          by-tests true false = none
+          by-tests false t = none
 
       -- what is known of a held record's label and key
       record Told (u : TemplateRecord) : Type 0 where
@@ -184,12 +193,14 @@ module _ (w b : List ℕ) (id len clock : ℕ) where
         named : eqb label (u .label) ≡ eqb id (u .key)
 
       told-thins : (u : TemplateRecord) → Told u →
-          drop (getD skips (u .label) 0) (keep (bodyStays (planTest l clock made) (u .label))
+          drop (getD (skipOf w made) (u .label) 0) (keep (bodyStays (planTest l clock made) (u .label))
           (bodiesAt b (u .label) es))
           ≡ thinAt n planRead (u .key) (bodiesAt b (u .label) es)
+      unfolding skipOf
       told-thins u t =
           rw (
-            held-skipped leaving (tableOf w .handed) goes (firstLive live stay) (u .label) (t .small) (t .apart),
+            held-skipped leaving (tableOf w .handed) (d .first) (u .label) (t .small) (t .apart),
+            first-told (u .label) (t .small),
             has-alike b es u leaving (all-take (Alike u) n held (t .others)),
             templates-take b es n held,
             first-alike u (all-drop (Alike u) n held (t .others)),
@@ -240,12 +251,13 @@ module _ (w b : List ℕ) (id len clock : ℕ) where
           )
 
       -- where nothing goes, nothing is skipped
-      skips-none : NothingGoes n (chanceCount w) d → skip′ ≡ zeros
-      unfolding setEach recordsFrom
+      skips-none : NothingGoes n (chanceCount w) d → skipOf w made ≡ zeros
+      unfolding skipOf setEach recordsFrom
       skips-none none =
-          decided .skips ∙ rw (none .one-id, none .evicts-none, ← handed-are w b ok, none .hands-none)
+          let no-first : d .first ≡ 1024 = decided .first ∙ rw (none .one-id) in
+          rw (no-first, none .evicts-none, ← handed-are w b ok, none .hands-none) none-set
 
-      all-kept : KeepsAll w clock skip′ made
+      all-kept : KeepsAll w clock made
       all-kept e =
           let none = certain e in
           let q : StayTest = planTest l clock made in
@@ -258,17 +270,17 @@ module _ (w b : List ℕ) (id len clock : ℕ) where
           (sym labelled) (label-fresh (held-read w b ok clock) id small counts) in
           rw (skips-none none) (none-skipped q es small (all-stay q es (none .one-id) fresh (short w b ok)))
 
-      pub plan-made : Plans w b id len clock skip′ made
-      plan-made =
+      pub plan-made : n ≤ heldCount w → Plans w b id len clock made
+      unfolding skipOf
+      plan-made few =
           let handed = tableOf w .handed in
-          let first = firstLive live stay in
           record {
             verdict = λ x e. ap (λ (p : Plan). p .verdict) (plan-is x e) ∙ verdict-is;
             label = labelled;
-            thins = λ x e. all-map Told _ (λ u t. rw (decided .skips) (told-thins u t) ∙ sym (thin-is x e (u .key)
-                (bodiesAt b (u .label) es))) held held-told;
-            ends-chance = rw (decided .skips) (all-handed-skipped leaving handed goes first
-                (all-back (λ u. u .label < 1024) held handed (rows w b ok .labels-small)));
-            long = rw (decided .skips) (skipped-long leaving handed goes first);
+            thins = λ x e. all-map Told _ (λ u t. told-thins u t ∙ sym (thin-is x e (u .key) (bodiesAt b (u .label) es)))
+                held held-told;
+            ends-chance = all-handed-skipped leaving handed (d .first)
+                (all-back (λ u. u .label < 1024) held handed (rows w b ok .labels-small));
+            few = few;
             keeps-all = all-kept;
           }

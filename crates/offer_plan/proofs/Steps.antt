@@ -5,7 +5,7 @@ use mathlib.Core.List.{List}
 use Prim.Native.Nat.{ℕ, _+_, _*_, _-_, _≤_, _<_}
 use native.Mathlib.Omega.{arith}
 use lib.Dec.{eqb, leb, ltb}
-use lib.ListN.{length, set}
+use lib.ListN.{length}
 use borrow.Author.Tests.{eqb-true, lt-ltb, le-ltb, lt-leb, le-leb}
 use Rattle.config.specs.declared.Ttl.the-variants.{None}
 use Rattle.config.specs.declared.PendingFlowsConfig.{PendingFlowsConfig}
@@ -22,40 +22,39 @@ use Rattle.table.proofs.Words.{length-records}
 use Rattle.table_entries.specs.declared.StayTest.{StayTest}
 use Rattle.table_entries.specs.Sums.{summed}
 use Rattle.table_entries.proofs.LabelSums.{zeros}
-use Rattle.table_records.specs.Choose.{skipAll, evictionsOf, liveRecords, firstLive}
+use Rattle.table_records.specs.Choose.{evictionsOf, liveRecords, firstLive}
 use Rattle.cache_model.specs.Removal.{evictions}
 use Rattle.pending_flows.specs.declared.header.HeaderFigures.{HeaderFigures}
 use Rattle.pending_flows.specs.Header.{figuresAt}
 use Rattle.pending_flows.specs.View.{cacheOf}
 use Rattle.pending_flows.proofs.Questions as Questions
 use Rattle.offer_plan.specs.Plan.{liveTest, liveSums, liveIn, LiveRead}
-use Rattle.offer_plan.specs.Plan.{liveAt, othersFill, skippingFirst, Decides}
+use Rattle.offer_plan.specs.Plan.{liveAt, othersFill, firstEvicted, Decides}
 use Rattle.offer_plan.proofs.RecordReads.{evictions-read, none-evicted}
 use Rattle.offer_plan.proofs.Live.{label-is, count-is, live-is}
 use Rattle.offer_plan.proofs.Tables.{held-sized, total-held, held-are}
 
 -- ---- the least recent live template
 
-module _ (live skip : List ℕ) (rs : List TemplateRecord) (most n : ℕ) (counted : n ≡ liveRecords live rs) where
-  pub first-stays : n < most → skip ≡ skippingFirst most live rs skip
+module _ (live : List ℕ) (rs : List TemplateRecord) (most n : ℕ) (counted : n ≡ liveRecords live rs) where
+  pub first-stays : n < most → 1024 ≡ firstEvicted most live rs
   first-stays h = rw (lt-leb most (liveRecords live rs) (omega arith))
 
-  pub first-goes : (k : ℕ) (skip′ : List ℕ) → most ≤ n → k ≡ firstLive live rs → skip′ ≡ set skip k skipAll →
-      skip′ ≡ skippingFirst most live rs skip
-  first-goes k skip′ h first stored = rw (le-leb most (liveRecords live rs) (omega arith), stored, first)
+  pub first-goes : (k : ℕ) → most ≤ n → k ≡ firstLive live rs → k ≡ firstEvicted most live rs
+  first-goes k h first = rw (le-leb most (liveRecords live rs) (omega arith)) first
 
 -- with the live bodies of each label summed
-pub oldest-skipped : (l : PendingFlowsConfig) (clock : ℕ) (es : List Entry) (rs : List TemplateRecord)
-    (sums skip skip′ : List ℕ) (q : StayTest) → q ≡ liveTest (l .ttl) clock → sums ≡ summed q false zeros es →
-    skip′ ≡ skippingFirst (l .«max_pending_flows») sums rs skip →
-    skip′ ≡ skippingFirst (l .«max_pending_flows») (liveSums (l .ttl) clock es) rs skip
-oldest-skipped l clock es rs sums skip skip′ q tests counted stored =
+pub oldest-found : (l : PendingFlowsConfig) (clock : ℕ) (es : List Entry) (rs : List TemplateRecord) (sums : List ℕ)
+    (k : ℕ) (q : StayTest) → q ≡ liveTest (l .ttl) clock → sums ≡ summed q false zeros es →
+    k ≡ firstEvicted (l .«max_pending_flows») sums rs →
+    k ≡ firstEvicted (l .«max_pending_flows») (liveSums (l .ttl) clock es) rs
+oldest-found l clock es rs sums k q tests counted first =
     let is : sums ≡ liveSums (l .ttl) clock es = counted ∙ rw tests in
-    rw is at stored
+    rw is at first
 
 -- ---- the decision: h live bodies are found, and the record counts c
 
-module _ (l : PendingFlowsConfig) (id clock : ℕ) (w : List ℕ) (es : List Entry) (skip : List ℕ) (p n : ℕ)
+module _ (l : PendingFlowsConfig) (id clock : ℕ) (w : List ℕ) (es : List Entry) (p n : ℕ)
     (x : RecordFound) (h c : ℕ) (reads : LiveRead (l .ttl) clock (recordsFrom w p n) es)
     (found : x ≡ recordOf id (recordsFrom w p n)) (read : h ≡ liveIn (l .ttl) clock es x) (counted : c ≡ countIn x)
   where
@@ -72,11 +71,11 @@ module _ (l : PendingFlowsConfig) (id clock : ℕ) (w : List ℕ) (es : List Ent
     fresh e = here ∙ eqb-true h c e ∙ counted ∙ count-is reads id found
 
     pub held-decided : 0 < h →
-        Decides l id live rs skip skip
-        (record { full = leb (l .«max_entries_per_template») h; all = false; live = eqb h c })
+        Decides l id live rs
+        (record { full = leb (l .«max_entries_per_template») h; all = false; live = eqb h c; first = 1024 })
     held-decided some =
         let tested : ltb 0 h ≡ true = lt-ltb 0 h some in
-        record { full = rw (here, tested); all = rw (here, tested); skips = refl; none-expired = fresh }
+        record { full = rw (here, tested); all = rw (here, tested); first = refl; none-expired = fresh }
 
     module _ (none : h ≤ 0) (t : Bool) (tested : t ≡ othersFill (labelIn x) n (l .«max_pending_flows»)) where
       no-bodies : ltb 0 h ≡ false
@@ -86,20 +85,20 @@ module _ (l : PendingFlowsConfig) (id clock : ℕ) (w : List ℕ) (es : List Ent
       filled = rw (length-records w p n, ← label-is reads id found) (sym tested)
 
       pub new-decided : t ≡ false →
-          Decides l id live rs skip skip (record { full = false; all = false; live = eqb h c })
+          Decides l id live rs (record { full = false; all = false; live = eqb h c; first = 1024 })
       new-decided e = record {
         full = rw (here, no-bodies);
         all = rw (here, no-bodies, filled, e);
-        skips = refl;
+        first = refl;
         none-expired = fresh;
       }
 
-      pub new-full-decided : (skip′ : List ℕ) → t ≡ true → skip′ ≡ skippingFirst (l .«max_pending_flows») live rs skip →
-          Decides l id live rs skip skip′ (record { full = false; all = true; live = eqb h c })
-      new-full-decided skip′ e stored = record {
+      pub new-full-decided : (k : ℕ) → t ≡ true → k ≡ firstEvicted (l .«max_pending_flows») live rs →
+          Decides l id live rs (record { full = false; all = true; live = eqb h c; first = k })
+      new-full-decided k e oldest = record {
         full = rw (here, no-bodies);
         all = rw (here, no-bodies, filled, e);
-        skips = stored;
+        first = oldest;
         none-expired = fresh;
       }
 

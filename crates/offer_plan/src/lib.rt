@@ -3,3 +3,4 @@ mod plan;
 
 pub use plan::OfferPlan;
 pub use plan::plan_offer;
+pub use plan::skip_planned;

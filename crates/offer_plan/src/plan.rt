@@ -4,7 +4,7 @@ ghost use mathlib.Core.Bool.{true};
 ghost use Prim.Native.Nat.{_+_, _*_, _≤_};
 ghost use lib.ListN.{length, replicate};
 ghost use Rattle.config.specs.Limits.{recordWords, entryWords};
-ghost use Rattle.table.specs.Layout.{limitsOf, entriesAt};
+ghost use Rattle.table.specs.Layout.{limitsOf, heldCount, entriesAt};
 ghost use Rattle.table.specs.Table.{tableOf, entriesFrom, recordsFrom};
 ghost use Rattle.table.specs.Reads.{labelIn};
 ghost use Rattle.table.specs.WellFormed.{wellFormed};
@@ -12,7 +12,7 @@ ghost use Rattle.cache_model.specs.Removal.{evictions};
 ghost use Rattle.pending_flows.specs.Header.{figuresAt};
 ghost use Rattle.pending_flows.specs.View.{cacheOf};
 ghost use Rattle.offer_plan.specs.Plan.{liveTest, liveSums, liveIn, CountRight};
-ghost use Rattle.offer_plan.specs.Plan.{LiveRead, othersFill, skippingFirst, Decides, NothingGoes, Plans};
+ghost use Rattle.offer_plan.specs.Plan.{LiveRead, othersFill, firstEvicted, Decides, NothingGoes, skipOf, Plans};
 use config::PendingFlowsConfig;
 use config::RECORD_WORDS;
 use config::Ttl;
@@ -36,19 +36,24 @@ use table_records::skip_records;
 const SKIP_ALL: u32 = 262144;
 
 // What an offer decides: whether the template is full (20), the id's label (1,024 where the id is not held), whether
-// expired bodies of all ids go or only the id's, and whether it is certain that nothing goes.
+// expired bodies of all ids go or only the id's, whether it is certain that nothing goes, how many least recent
+// templates go for their bytes, and the label of the one that goes for room (1,024 where none does).
 pub struct OfferPlan {
     pub full: bool,
     pub label: u64,
     pub all: bool,
     pub none: bool,
+    pub evicted: usize,
+    pub first: u64,
 }
 
-// What is decided by the templates that step 2 leaves; live: none of the id's bodies is expired.
+// What is decided by the templates that step 2 leaves; live: none of the id's bodies is expired; first: the label of
+// the template that goes for room.
 struct Decision {
     full: bool,
     all: bool,
     live: bool,
+    first: u64,
 }
 
 // The test by which bodies that are not expired stay.
@@ -127,46 +132,44 @@ fn evictions_for(
     )
 }
 
-// Has the least recent template with live bodies skipped, where those templates are as many as there may be.
-fn skip_first(
+// The label of the least recent template with live bodies, where those templates are as many as there may be; else
+// what is no label.
+fn first_evicted(
     words: &[u64],
     from: usize,
     records: usize,
     most: usize,
     live: &[u32; LABELS],
-    skip: &mut [u32; LABELS],
-)
+) -> u64
     requires { ⌜ from + recordWords * records ≤ length (now words) ⌝ }
-    ensures { λ _.
-        ⌜ now (skip .exit) ≡ skippingFirst most (now (live .entry)) (recordsFrom (now (words .entry)) from records)
-        (now (skip .entry)) ⌝ }
+    ensures { λ r.
+        ⌜ r ≡ firstEvicted most (now (live .entry)) (recordsFrom (now (words .entry)) from records) ⌝ }
 {
     if live_records(words, from, records, live) < most {
-        return;
+        return LABELS as u64;
     }
-    set_sum(skip, first_live(words, from, records, live), SKIP_ALL);
+    first_live(words, from, records, live)
 }
 
 // The same by the entries: their live bodies are summed for it.
-fn skip_oldest(
+fn oldest_evicted(
     words: &[u64],
     limits: PendingFlowsConfig,
     entries: usize,
     from: usize,
     records: usize,
     clock: u64,
-    skip: &mut [u32; LABELS],
-)
+) -> u64
     requires { ⌜ entriesAt + entryWords * entries ≤ length (now words) ⌝ }
     requires { ⌜ from + recordWords * records ≤ length (now words) ⌝ }
-    ensures { λ _.
-        ⌜ now (skip .exit) ≡ skippingFirst (limits .«max_pending_flows») (liveSums (limits .ttl) clock (entriesFrom (now
-        (words .entry)) entriesAt entries)) (recordsFrom (now (words .entry)) from records) (now (skip .entry)) ⌝ }
+    ensures { λ r.
+        ⌜ r ≡ firstEvicted (limits .«max_pending_flows») (liveSums (limits .ttl) clock (entriesFrom (now (words .entry))
+        entriesAt entries)) (recordsFrom (now (words .entry)) from records) ⌝ }
 {
     let ttl = limits.ttl;
     let mut live = [0u32; LABELS];
     sums_by_label(words, entries, live_test(ttl, clock), false, &mut live);
-    skip_first(words, from, records, limits.max_pending_flows, &live, skip);
+    first_evicted(words, from, records, limits.max_pending_flows, &live)
 }
 
 // Steps 3 to 5, by the records that step 2 leaves and the entries. The live bodies of other ids are looked at only
@@ -179,7 +182,6 @@ fn decide(
     records: usize,
     id: u64,
     clock: u64,
-    skip: &mut [u32; LABELS],
 ) -> Decision
     requires { ⌜ entriesAt + entryWords * entries ≤ length (now words) ⌝ }
     requires { ⌜ from + recordWords * records ≤ length (now words) ⌝ }
@@ -187,7 +189,7 @@ fn decide(
         entries) ⌝ }
     ensures { λ r.
         ⌜ Decides limits id (liveSums (limits .ttl) clock (entriesFrom (now (words .entry)) entriesAt entries))
-        (recordsFrom (now (words .entry)) from records) (now (skip .entry)) (now (skip .exit)) r ⌝ }
+        (recordsFrom (now (words .entry)) from records) r ⌝ }
 {
     let ttl = limits.ttl;
     let found = record_of(words, from, records, id);
@@ -198,20 +200,23 @@ fn decide(
             full: limits.max_entries_per_template <= here,
             all: false,
             live,
+            first: LABELS as u64,
         };
     }
     if others_fill(found, records, limits.max_pending_flows) {
-        skip_oldest(words, limits, entries, from, records, clock, skip);
+        let first = oldest_evicted(words, limits, entries, from, records, clock);
         return Decision {
             full: false,
             all: true,
             live,
+            first,
         };
     }
     Decision {
         full: false,
         all: false,
         live,
+        first: LABELS as u64,
     }
 }
 
@@ -232,7 +237,7 @@ fn nothing_goes(evicted: usize, chance: u64, decision: Decision) -> bool
     decision.live
 }
 
-// What an offer of a body of this length decides. Sets in `skip` how many of each label's oldest bodies go.
+// What an offer of a body of this length decides.
 pub fn plan_offer(
     words: &[u64],
     bytes: &[u8],
@@ -241,39 +246,45 @@ pub fn plan_offer(
     id: u64,
     len: usize,
     clock: u64,
-    skip: &mut [u32; LABELS],
 ) -> OfferPlan
     requires { ⌜ (wellFormed (now words) (length (now bytes)) ≡ true) × (limits ≡ limitsOf (now words)) ⌝ }
     requires { ⌜ (figures ≡ figuresAt (now words)) × (len ≤ limits .«max_total_bytes») ⌝ }
-    requires { ⌜ now skip ≡ replicate 1024 0 ⌝ }
-    ensures { λ r. ⌜ Plans (now (words .entry)) (now (bytes .entry)) id len clock (now (skip .exit)) r ⌝ }
+    ensures { λ r. ⌜ Plans (now (words .entry)) (now (bytes .entry)) id len clock r ⌝ }
 {
     let from = records_at(limits);
     let held = figures.templates as usize;
     let evicted = evictions_for(words, bytes, limits, figures, len);
     let stay = from + RECORD_WORDS * evicted;
     let left = held - evicted;
-    skip_records(words, from, evicted, skip);
-    skip_records(
-        words,
-        from + RECORD_WORDS * held,
-        figures.chance as usize,
-        skip,
-    );
-    let decision = decide(
-        words,
-        limits,
-        figures.entries as usize,
-        stay,
-        left,
-        id,
-        clock,
-        skip,
-    );
+    let entries = figures.entries as usize;
+    let decision = decide(words, limits, entries, stay, left, id, clock);
     OfferPlan {
         full: decision.full,
         label: label_for(words, from, held, id),
         all: decision.all,
         none: nothing_goes(evicted, figures.chance, decision),
+        evicted,
+        first: decision.first,
     }
+}
+
+// Sets in `skip` how many of each label's oldest bodies go by a plan.
+pub fn skip_planned(
+    words: &[u64],
+    bytes: &[u8],
+    limits: PendingFlowsConfig,
+    figures: HeaderFigures,
+    plan: OfferPlan,
+    skip: &mut [u32; LABELS],
+)
+    requires { ⌜ (wellFormed (now words) (length (now bytes)) ≡ true) × (limits ≡ limitsOf (now words)) ⌝ }
+    requires { ⌜ (figures ≡ figuresAt (now words)) × (plan .evicted ≤ heldCount (now words)) ⌝ }
+    requires { ⌜ now skip ≡ replicate 1024 0 ⌝ }
+    ensures { λ _. ⌜ now (skip .exit) ≡ skipOf (now (words .entry)) plan ⌝ }
+{
+    let from = records_at(limits);
+    let handed = from + RECORD_WORDS * (figures.templates as usize);
+    skip_records(words, from, plan.evicted, skip);
+    skip_records(words, handed, figures.chance as usize, skip);
+    set_sum(skip, plan.first, SKIP_ALL);
 }

@@ -1,5 +1,5 @@
 pub mod HeldBodies
-pub mod Removing
+pub mod PlannedRemoval
 pub mod Rooms
 pub mod Additions
 pub mod TooLong

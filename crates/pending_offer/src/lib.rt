@@ -1,5 +1,6 @@
 // Offering a body to a pending flow cache (pending_flows.rs).
 mod offering;
+mod removing;
 mod settling;
 mod storing;
 

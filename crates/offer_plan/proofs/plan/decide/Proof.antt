@@ -19,8 +19,8 @@ returns c = search (held-decided, needs)
 others-fill-requires : tie.Need-others-fill-requires
 others-fill-requires c κs = search needs
 
-skip-oldest-requires : tie.Need-skip-oldest-requires
-skip-oldest-requires c κs = search needs
+oldest-evicted-requires : tie.Need-oldest-evicted-requires
+oldest-evicted-requires c κs = search needs
 
 returns-2 : tie.Need-returns-2
 returns-2 c = search (new-full-decided, needs)
@@ -37,6 +37,6 @@ decide-spec =
     count-in-requires
     returns
     others-fill-requires
-    skip-oldest-requires
+    oldest-evicted-requires
     returns-2
     returns-3)

@@ -1,7 +1,5 @@
 use Rattle.offer_plan.proofs.Steps.{entries-within, bodies-few, records-within}
-use Rattle.offer_plan.proofs.Offers.{held-scaled, handed-start, handed-within, leaving-few}
-use Rattle.offer_plan.proofs.Offers.{leaving-scaled}
-use Rattle.offer_plan.proofs.Offers.{stay-start, leaving-within, stay-within, live-read, plan-done}
+use Rattle.offer_plan.proofs.Offers.{leaving-few, leaving-scaled, stay-start, stay-within, live-read, plan-done}
 use borrow.Author.Needs.{needs}
 use Rattle.offer_plan.proofs.plan.plan_offer.Statement.{statement}
 use Rattle.offer_plan.proofs.plan.plan_offer.Tie as tie
@@ -20,18 +18,6 @@ add-stay c = search (stay-start, needs)
 
 sub-left : tie.Need-sub-left
 sub-left c = search (leaving-few, needs)
-
-skip-records-requires : tie.Need-skip-records-requires
-skip-records-requires c κs = search (leaving-within, needs)
-
-mul-skip-records : tie.Need-mul-skip-records
-mul-skip-records c = search (held-scaled, needs)
-
-add-skip-records : tie.Need-add-skip-records
-add-skip-records c = search (handed-start, needs)
-
-skip-records-requires-2 : tie.Need-skip-records-requires-2
-skip-records-requires-2 c κs = search (handed-within, needs)
 
 decide-requires : tie.Need-decide-requires
 decide-requires c κs =
@@ -55,10 +41,6 @@ plan-offer-spec =
     mul-stay
     add-stay
     sub-left
-    skip-records-requires
-    mul-skip-records
-    add-skip-records
-    skip-records-requires-2
     decide-requires
     label-for-requires
     nothing-goes-requires
