@@ -1,47 +1,54 @@
 -- The removal where every body stays, with the limits and the figures that were read. Assumes nothing.
 use mathlib.Core.Path.{_≡_, refl, sym, ap, _∙_}
-use mathlib.Core.Bool.{true}
+use mathlib.Core.Logic.{_≢_}
+use mathlib.Core.Bool.{Bool, true, false, cond}
 use mathlib.Core.List.{List}
-use Prim.Native.Nat.{ℕ, _+_, _*_, _^_, _≤_, _<_}
+use Prim.Native.Nat.{ℕ, _+_, _*_, _-_, _^_, _≤_, _<_}
 use native.Mathlib.Omega.{arith}
-use lib.ListN.{length, getD, set}
+use lib.Dec.{eqb, ltb}
+use lib.ListN.{length, getD, replicate, length-replicate, List·getD-eq-default}
+use lib.Seq.{getD-set-other}
+use borrow.Author.Tests.{eqb-true, eqb-false, ltb-true, ltb-false}
 use Rattle.config.specs.declared.PendingFlowsConfig.{PendingFlowsConfig}
 use Rattle.config.specs.Limits.{recordWords, entryWords}
-use Rattle.config.proofs.Lists.{All}
+use Rattle.config.proofs.Lists.{All, all-both}
 use Rattle.table.specs.declared.Entry.{Entry}
+use Rattle.table.specs.declared.TemplateRecord.{TemplateRecord}
 use Rattle.table.specs.Layout.{limitsOf, heldCount, entryCount, chanceCount, entriesAt, recordsAt}
-use Rattle.table.specs.Table.{entriesFrom, recordsFrom}
+use Rattle.table.specs.Table.{recordAt, entriesFrom, recordsFrom, tally}
 use Rattle.table.specs.WellFormed.{wellFormed}
-use Rattle.table.proofs.Words.{length-entries}
+use Rattle.table.proofs.Words.{length-entries, length-records}
 use Rattle.table.proofs.Facts.{LegalWords, words-say}
+use Rattle.table.proofs.Labels.{tally-most, absent-tally}
 use Rattle.table_entries.specs.declared.StayTest.{StayTest}
 use Rattle.table_entries.specs.Sweep.{swept}
-use Rattle.table_entries.proofs.LabelSums.{zeros}
+use Rattle.table_entries.proofs.LabelSums.{length-summed, zeros}
 use Rattle.table_records.specs.Close.{Closes}
-use Rattle.table_records.specs.Choose.{recordCounts}
+use Rattle.table_records.specs.Take.{placeOf, cappedCount, TakesOff}
+use Rattle.table_records.proofs.Places.{place-has, place-absent}
+use Rattle.table_records.proofs.Taken.{LeftBut, taken-closes, none-closes}
 use Rattle.pending_flows.specs.declared.header.HeaderFigures.{HeaderFigures}
 use Rattle.pending_flows.specs.Header.{figuresAt}
 use Rattle.table_view.proofs.Summed.{lenMost}
-use Rattle.table_view.proofs.Removed.{placed-short}
-use Rattle.table_view.proofs.AllStay.{everything-swept, records-count}
+use Rattle.table_view.proofs.Removed.{label-counts, none-set, placed-short}
+use Rattle.table_view.proofs.AllStay.{everything-swept}
 use Rattle.pending_calls.specs.declared.removal.Removed.{Removed}
-use Rattle.pending_calls.specs.Removal.{everything, counted, Removes}
+use Rattle.pending_calls.specs.Removal.{everything, counted, countedBut, Removes}
 use Rattle.pending_calls.proofs.Removals.{removal-done}
-use Rattle.pending_calls.proofs.Removed.{rows-tied, rows-placed, few-templates, few-bodies, total-short}
-use Rattle.pending_calls.proofs.Removed.{entries-below-records, records-within}
+use Rattle.pending_calls.proofs.Removed.{TiedRows, rows-tied, rows-placed, few-templates, few-bodies}
+use Rattle.pending_calls.proofs.Removed.{total-short, entries-below-records, records-within}
 
 -- two removals that keep the same entries
-pub removes-alike : {q q′ : StayTest} {p k m apart : ℕ} {skip skip′ kept w w′ kept′ : List ℕ} {r : Removed} →
+pub removes-alike : {q q′ : StayTest} {p k m apart : ℕ} {skip skip′ w w′ : List ℕ} {r : Removed} →
     swept q skip (entriesFrom w entriesAt m) ≡ swept q′ skip′ (entriesFrom w entriesAt m) →
-    Removes q p k m apart skip kept w w′ kept′ r → Removes q′ p k m apart skip′ kept w w′ kept′ r
-removes-alike {apart = apart} {kept = kept} same done = record {
+    Removes q p k m apart skip w w′ r → Removes q′ p k m apart skip′ w w′ r
+removes-alike {apart = apart} same done = record {
   few-entries = done .few-entries;
   few-records = done .few-records;
   entries = done .entries ∙ same;
-  bodies-apart = done .bodies-apart ∙ ap (λ (es : List Entry). getD (counted kept es) apart 0) same;
-  counts = done .counts ∙ ap (λ (es : List Entry). set (counted kept es) apart 0) same;
-  records = done .records;
-  index = done .index;
+  bodies-apart = done .bodies-apart ∙ ap (λ (es : List Entry). getD (counted es) apart 0) same;
+  records = done .records ∙ rw same;
+  index = rw same at (done .index);
   head = done .head;
   tail = done .tail;
   long = done .long;
@@ -75,22 +82,113 @@ module _ (w : List ℕ) (n : ℕ) (ok : wellFormed w n ≡ true) where
       pub records-inside : p + recordWords * (f .templates + f .chance) ≤ length w
       records-inside = rw (is, from, limits) (records-within w n legal)
 
-      pub none-removed : (apart : ℕ) (kept kept₁ kept′ w′ : List ℕ) (remain bodies : ℕ) → kept ≡ zeros →
-          kept₁ ≡ recordCounts kept (recordsFrom w p (f .templates + f .chance)) → bodies ≡ getD kept₁ apart 0 →
-          kept′ ≡ set kept₁ apart 0 → Closes p (f .templates + f .chance) kept′ w w′ remain → length w′ ≡ length w →
-          Removes everything (recordsAt (limitsOf w)) (heldCount w + chanceCount w) (entryCount w) apart zeros zeros w
-          w′ kept′ (record { entries = f .entries; records = remain; apart = bodies })
-      none-removed apart kept kept₁ kept′ w′ remain bodies none read taken stored closes long =
-          let start : p ≡ recordsAt (limitsOf w) = from ∙ ap recordsAt limits in
-          let many : f .entries ≡ entryCount w = ap (λ (g : HeaderFigures). g .entries) is in
-          let k = heldCount w + chanceCount w in
-          let rows : f .templates + f .chance ≡ k = ap (λ (g : HeaderFigures). g .templates + g .chance) is in
-          let counts : kept₁ ≡ counted zeros es =
-          read ∙ rw (none, start, rows) (records-count (rows-tied w n legal) entries-short
-          (omega (arith, length-entries w entriesAt (entryCount w), few-bodies w n legal))) in
-          rw many
-          (removal-done everything (recordsAt (limitsOf w)) k (entryCount w) apart zeros zeros w w w′ kept₁ kept′
-          (record { entries = entryCount w; records = remain; apart = bodies })
-          (entries-below-records w n legal, records-within w n legal)
-          (record { few = omega arith; entries = sym all-swept-stay; head = refl; tail = refl })
-          refl counts taken stored (rw (start, rows) at closes) long)
+      abbrev k : ℕ
+      k = f .templates + f .chance
+
+      abbrev rs : List TemplateRecord
+      rs = recordsFrom w p k
+
+      start : p ≡ recordsAt (limitsOf w)
+      start = from ∙ ap recordsAt limits
+
+      rows : TiedRows p k (entryCount w) w
+      rows = rw (start, is) (rows-tied w n legal)
+
+      module _ (apart : ℕ) where
+        abbrev kept : List ℕ
+        kept = countedBut apart es
+
+        label-has : (j : ℕ) → j < 1024 → getD (counted es) j 0 ≡ tally j es
+        label-has =
+            label-counts es (omega (arith, length-entries w entriesAt (entryCount w), few-bodies w n legal))
+            entries-short
+
+        -- what each record counts is left, but of the label apart
+        left-but : All (LeftBut kept apart) rs
+        left-but =
+            all-both (λ r. (r .label < 1024) × (0 < r .count)) (λ r. r .count ≡ tally (r .label) es)
+            (LeftBut kept apart) each rs
+            (all-both (λ r. r .label < 1024) (λ r. 0 < r .count) (λ r. (r .label < 1024) × (0 < r .count))
+            (λ r a b. (a, b)) rs (rows .labels-small) (rows .some-bodies))
+            (rows .counts-right)
+          where
+            each : (r : TemplateRecord) → (r .label < 1024) × (0 < r .count) → r .count ≡ tally (r .label) es →
+                LeftBut kept apart r
+            each r small right = (by-label (eqb apart (r .label)) refl, small .1)
+              where
+                by-label : (t : Bool) → eqb apart (r .label) ≡ t → getD kept (r .label) 0 ≡ cond t 0 (r .count)
+                by-label true e =
+                    let same : r .label ≡ apart = sym (eqb-true apart (r .label) e) in
+                    ap (λ (j : ℕ). getD kept j 0) same ∙ none-set (counted es) apart
+                by-label false e =
+                    let d : r .label ≡ apart → ⊥ = λ z. eqb-false apart (r .label) e (sym z) in
+                    getD-set-other (counted es) apart (r .label) 0 0 d
+                    ∙ label-has (r .label) (small .0)
+                    ∙ sym right
+
+        done-by : (w′ : List ℕ) (remain bodies : ℕ) → Closes p k kept w w′ remain → length w′ ≡ length w →
+            bodies ≡ getD (counted es) apart 0 →
+            Removes everything (recordsAt (limitsOf w)) (heldCount w + chanceCount w) (entryCount w) apart zeros w w′
+            (record { entries = f .entries; records = remain; apart = bodies })
+        done-by w′ remain bodies closes long counts =
+            let many : f .entries ≡ entryCount w = ap (λ (g : HeaderFigures). g .entries) is in
+            let all : k ≡ heldCount w + chanceCount w = ap (λ (g : HeaderFigures). g .templates + g .chance) is in
+            rw many
+            (removal-done everything (recordsAt (limitsOf w)) (heldCount w + chanceCount w) (entryCount w) apart zeros w
+            w w′ (counted es) kept (record { entries = entryCount w; records = remain; apart = bodies })
+            (entries-below-records w n legal, records-within w n legal)
+            (record { few = omega arith; entries = sym all-swept-stay; head = refl; tail = refl })
+            refl counts refl (rw (start, all) at closes) long)
+
+        -- no record has the label
+        pub none-apart : (at : ℕ) → at ≡ placeOf apart rs → k ≤ at →
+            Removes everything (recordsAt (limitsOf w)) (heldCount w + chanceCount w) (entryCount w) apart zeros w w
+            (record { entries = f .entries; records = k; apart = 0 })
+        none-apart at placed past =
+            let absent = place-absent apart rs (omega (arith, length-records w p k)) in
+            done-by w k 0
+            (none-closes kept apart p k w (rows .labels-differ) left-but (omega (arith, records-few))
+            (rows .index-right) (omega arith)) refl (by-size (ltb apart 1024) refl absent)
+          where
+            by-size : (t : Bool) → ltb apart 1024 ≡ t → All (λ u. apart ≢ u .label) rs →
+                0 ≡ getD (counted es) apart 0
+            by-size true e absent =
+                sym (label-has apart (ltb-true apart 1024 e) ∙ absent-tally apart rs es absent (rows .labels-known))
+            by-size false e absent =
+                let long : length (replicate {A = ℕ} 1024 0) ≡ 1024 = length-replicate {A = ℕ} 1024 0 in
+                sym (List·getD-eq-default (counted es) 0 {n = apart}
+                (omega (arith, ltb-false apart 1024 e, length-summed everything false zeros es)))
+
+        -- one has it, and is taken off
+        abbrev r : TemplateRecord
+        r = recordAt w (p + recordWords * placeOf apart rs)
+
+        pub one-apart : (at bodies : ℕ) (w′ : List ℕ) → at ≡ placeOf apart rs → at < k →
+            TakesOff p k at w w′ bodies → length w′ ≡ length w →
+            Removes everything (recordsAt (limitsOf w)) (heldCount w + chanceCount w) (entryCount w) apart zeros w w′
+            (record { entries = f .entries; records = k - 1; apart = bodies })
+        one-apart at bodies w′ placed held taken long =
+            done-by w′ (k - 1) bodies (taken-closes kept apart p k w (rows .labels-differ) left-but at bodies w′ placed
+            taken) long count
+          where
+            known : ((r .label < 1024) × (r .count ≡ tally (r .label) es)) × (apart ≡ r .label)
+            known =
+                place-has (λ u. (u .label < 1024) × (u .count ≡ tally (u .label) es)) apart w p k
+                (all-both (λ u. u .label < 1024) (λ u. u .count ≡ tally (u .label) es) _ (λ u a b. (a, b)) rs
+                (rows .labels-small) (rows .counts-right)) (omega arith)
+
+            count : bodies ≡ getD (counted es) apart 0
+            count =
+                let here : bodies ≡ cappedCount (r .count) =
+                taken .counted ∙ ap (λ (i : ℕ). cappedCount (recordAt w (p + recordWords * i) .count)) placed in
+                let same : tally (r .label) es ≡ tally apart es = ap (λ (j : ℕ). tally j es) (sym (known .1)) in
+                omega (
+                  arith,
+                  known .0 .1,
+                  known .0 .0,
+                  known .1,
+                  tally-most apart es,
+                  length-entries w entriesAt (entryCount w),
+                  few-bodies w n legal,
+                  label-has apart (omega (arith, known .0 .0, known .1)),
+                )

@@ -16,7 +16,6 @@ use Rattle.table_entries.specs.declared.StayTest.{StayTest}
 use Rattle.table_entries.specs.Sums.{sumMost}
 use Rattle.table_entries.specs.Sweep.{swept}
 use Rattle.table_entries.proofs.Swept.{length-swept, all-swept, placed-swept}
-use Rattle.table_entries.proofs.LabelSums.{zeros}
 use Rattle.table_records.specs.Close.{closed, positions, remapped}
 use Rattle.table_records.proofs.ClosedIndex.{closed-index-long, index-after-closing}
 use Rattle.table_view.proofs.Tied.{Tied, TiedApart, words-tied}
@@ -32,9 +31,9 @@ TiedRows p k m w = Tied (recordsFrom w p k) (entriesFrom w entriesAt m) (indexFr
 abbrev pub TiedRowsApart : ℕ → ℕ → ℕ → ℕ → List ℕ → Type 0
 TiedRowsApart a p k m w = TiedApart a (recordsFrom w p k) (entriesFrom w entriesAt m) (indexFrom w p k)
 
-module _ {q : StayTest} {p k m a : ℕ} {skip w w′ kept′ : List ℕ} {r : Removed} (tied : TiedRows p k m w)
+module _ {q : StayTest} {p k m a : ℕ} {skip w w′ : List ℕ} {r : Removed} (tied : TiedRows p k m w)
     (most : ℕ) (placed : Placed 0 most (entriesFrom w entriesAt m)) (few-records : k ≤ 1024) (few-entries : m ≤ sumMost)
-    (short : most ≤ lenMost) (done : Removes q p k m a skip zeros w w′ kept′ r) where
+    (short : most ≤ lenMost) (done : Removes q p k m a skip w w′ r) where
   abbrev es : List Entry
   es = entriesFrom w entriesAt m
 
@@ -55,24 +54,26 @@ module _ {q : StayTest} {p k m a : ℕ} {skip w w′ kept′ : List ℕ} {r : Re
       (all-swept (λ e. e .len ≤ lenMost) q skip es (placed-short 0 most lenMost es short placed)) a h
       ∙ ap (tally a) (sym (done .entries))
 
-  remaining-long : length (remapped (positions kept′ 0 rs) is) ≡ length (closed kept′ rs)
+  -- how many bodies of each label the removal leaves
+  abbrev kept : List ℕ
+  kept = labelCountsBut a (swept q skip es)
+
+  remaining-long : length (remapped (positions kept 0 rs) is) ≡ length (closed kept rs)
   remaining-long =
-      closed-index-long kept′ rs is (tied .index-right) (tied .index-long) (omega (arith, length-records w p k))
+      closed-index-long kept rs is (tied .index-right) (tied .index-long) (omega (arith, length-records w p k))
 
   -- as many index words as records
-  pub index-left : indexFrom w′ p (r .records) ≡ remapped (positions kept′ 0 rs) is
+  pub index-left : indexFrom w′ p (r .records) ≡ remapped (positions kept 0 rs) is
   index-left =
-      let n : length (remapped (positions kept′ 0 rs) is) ≡ r .records =
+      let n : length (remapped (positions kept 0 rs) is) ≡ r .records =
       remaining-long ∙ sym (ap length (done .records)) ∙ length-records w′ p (r .records) in
       ap (indexFrom w′ p) (sym n) ∙ done .index
 
   pub rows-left : TiedRowsApart a p (r .records) (r .entries) w′
   rows-left =
-      let kept : List ℕ = labelCountsBut a (swept q skip es) in
-      let same : kept′ ≡ kept = done .counts in
       let few : length rs ≤ 1024 = omega (arith, length-records w p k) in
       let facts = index-after-closing kept rs is (tied .index-right) (tied .index-long) few in
-      rw (done .records, done .entries, index-left, same)
+      rw (done .records, done .entries, index-left)
       (removed-apart q skip tied (omega (arith, length-entries w entriesAt m))
       (placed-short 0 most lenMost es short placed) a (facts .0) (facts .1))
 

@@ -3,7 +3,7 @@ use mathlib.Core.Path.{_≡_}
 use mathlib.Core.Bool.{false}
 use mathlib.Core.List.{List}
 use Prim.Native.Nat.{ℕ, _+_, _*_, _≤_}
-use lib.ListN.{length, getD, set, take, drop}
+use lib.ListN.{length, getD, set, replicate, take, drop}
 use Rattle.config.specs.declared.Ttl.the-variants.{None}
 use Rattle.config.specs.Limits.{recordWords}
 use Rattle.table.specs.declared.Entry.{Entry}
@@ -19,20 +19,23 @@ use Rattle.pending_calls.specs.declared.removal.Removed.{Removed}
 abbrev pub everything : StayTest
 everything = record { ttl = None; clock = 0; all = false; label = 1024; «max_size» = 18446744073709551615 }
 
--- how many bodies each label has, added to `kept`
-abbrev pub counted : List ℕ → List Entry → List ℕ
-counted kept es = summed everything false kept es
+-- how many bodies each label has; and the same with none for one label
+abbrev pub counted : List Entry → List ℕ
+counted es = summed everything false (replicate 1024 0) es
+
+abbrev pub countedBut : ℕ → List Entry → List ℕ
+countedBut apart es = set (counted es) apart 0
 
 -- m entries are swept, and k records from word p on closed. The record of the label `apart` goes, its bodies stay.
-pub record Removes (q : StayTest) (p k m apart : ℕ) (skip kept w w′ kept′ : List ℕ) (r : Removed) : Type 0 where
+pub record Removes (q : StayTest) (p k m apart : ℕ) (skip w w′ : List ℕ) (r : Removed) : Type 0 where
   pub few-entries : r .entries ≤ m
   pub few-records : r .records ≤ k
   pub entries : entriesFrom w′ entriesAt (r .entries) ≡ swept q skip (entriesFrom w entriesAt m)
-  pub bodies-apart : r .apart ≡ getD (counted kept (swept q skip (entriesFrom w entriesAt m))) apart 0
-  pub counts : kept′ ≡ set (counted kept (swept q skip (entriesFrom w entriesAt m))) apart 0
-  pub records : recordsFrom w′ p (r .records) ≡ closed kept′ (recordsFrom w p k)
-  pub index : indexFrom w′ p (length (remapped (positions kept′ 0 (recordsFrom w p k)) (indexFrom w p k)))
-      ≡ remapped (positions kept′ 0 (recordsFrom w p k)) (indexFrom w p k)
+  pub bodies-apart : r .apart ≡ getD (counted (swept q skip (entriesFrom w entriesAt m))) apart 0
+  pub records : recordsFrom w′ p (r .records)
+      ≡ closed (countedBut apart (swept q skip (entriesFrom w entriesAt m))) (recordsFrom w p k)
+  pub index : let ps = positions (countedBut apart (swept q skip (entriesFrom w entriesAt m))) 0 (recordsFrom w p k) in
+      indexFrom w′ p (length (remapped ps (indexFrom w p k))) ≡ remapped ps (indexFrom w p k)
   pub head : take entriesAt w′ ≡ take entriesAt w
   pub tail : drop (p + recordWords * k) w′ ≡ drop (p + recordWords * k) w
   pub long : length w′ ≡ length w

@@ -17,9 +17,10 @@ use table_entries::StayTest;
 use table_entries::sums_by_label;
 use table_entries::sweep;
 use table_records::close;
-use table_records::counts_by_label;
+use table_records::place_of;
 use table_records::set_sum;
 use table_records::sum_of;
+use table_records::take_off;
 
 // What a removal leaves: entries, records, and the bodies of the label that was set apart.
 pub struct Removed {
@@ -41,8 +42,7 @@ pub fn stay_all() -> StayTest
     }
 }
 
-// Sweeps the entries and closes the records; the record of the label `apart` goes though its bodies stay. Each label's
-// bodies that are left are added to `kept`, but those set apart.
+// Sweeps the entries and closes the records; the record of the label `apart` goes though its bodies stay.
 pub fn remove(
     words: &mut [u64],
     from: usize,
@@ -51,19 +51,18 @@ pub fn remove(
     test: StayTest,
     skip: &mut [u32; LABELS],
     apart: u64,
-    kept: &mut [u32; LABELS],
 ) -> Removed
     requires { ⌜ (entriesAt + entryWords * entries ≤ from) × (from + recordWords * records ≤ length (now words)) ⌝ }
-    requires { ⌜ (records ≤ 1024) × ((length (now skip) ≡ 1024) × (length (now kept) ≡ 1024)) ⌝ }
+    requires { ⌜ (records ≤ 1024) × (length (now skip) ≡ 1024) ⌝ }
     ensures { λ r.
-        ⌜ Removes test from records entries apart (now (skip .entry)) (now (kept .entry)) (now (words .entry))
-        (now (words .exit)) (now (kept .exit)) r ⌝ }
+        ⌜ Removes test from records entries apart (now (skip .entry)) (now (words .entry)) (now (words .exit)) r ⌝ }
 {
     let left = sweep(words, entries, test, skip);
-    sums_by_label(words, left, stay_all(), false, kept);
-    let bodies = sum_of(kept, apart);
-    set_sum(kept, apart, 0);
-    let remain = close(words, from, records, kept);
+    let mut kept = [0u32; LABELS];
+    sums_by_label(words, left, stay_all(), false, &mut kept);
+    let bodies = sum_of(&kept, apart);
+    set_sum(&mut kept, apart, 0);
+    let remain = close(words, from, records, &kept);
     Removed {
         entries: left,
         records: remain,
@@ -71,30 +70,36 @@ pub fn remove(
     }
 }
 
-// The removal where every body stays: no entry is looked at, since each label has the bodies that its record counts.
+// The removal where every body stays: no entry is looked at, and of the records only the one of the label `apart` goes.
 pub fn remove_none(
     words: &mut [u64],
     bytes: &[u8],
     limits: PendingFlowsConfig,
     figures: HeaderFigures,
     apart: u64,
-    kept: &mut [u32; LABELS],
 ) -> Removed
     requires { ⌜ (wellFormed (now words) (length (now bytes)) ≡ true) × (limits ≡ limitsOf (now words)) ⌝ }
-    requires { ⌜ (figures ≡ figuresAt (now words)) × (now kept ≡ replicate 1024 0) ⌝ }
+    requires { ⌜ figures ≡ figuresAt (now words) ⌝ }
     ensures { λ r.
         ⌜ Removes everything (recordsAt (limitsOf (now (words .entry)))) (heldCount (now (words .entry)) + chanceCount
-        (now (words .entry))) (entryCount (now (words .entry))) apart (replicate 1024 0) (replicate 1024 0)
-        (now (words .entry)) (now (words .exit)) (now (kept .exit)) r ⌝ }
+        (now (words .entry))) (entryCount (now (words .entry))) apart (replicate 1024 0) (now (words .entry))
+        (now (words .exit)) r ⌝ }
 {
     let from = records_at(limits);
     let records = (figures.templates + figures.chance) as usize;
-    counts_by_label(words, from, records, kept);
-    let bodies = sum_of(kept, apart);
-    set_sum(kept, apart, 0);
-    let remain = close(words, from, records, kept);
+    let entries = figures.entries as usize;
+    let at = place_of(words, from, records, apart);
+    if records <= at {
+        return Removed {
+            entries,
+            records,
+            apart: 0,
+        };
+    }
+    let bodies = take_off(words, from, records, at);
+    let remain = records - 1;
     Removed {
-        entries: figures.entries as usize,
+        entries,
         records: remain,
         apart: bodies,
     }

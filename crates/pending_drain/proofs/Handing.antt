@@ -1,21 +1,19 @@
--- The record of what is handed out, and the arrays of a removal. Assumes nothing.
+-- The record of what is handed out, and the removal before. Assumes nothing.
 use mathlib.Core.Path.{_≡_, refl, ap, subst, _∙_}
 use mathlib.Core.List.{List}
 use Prim.Native.Nat.{ℕ, _+_, _*_}
 use native.Mathlib.Omega.{arith}
-use lib.ListN.{length, set, length-replicate}
+use lib.ListN.{length, length-replicate}
 use Rattle.config.specs.declared.Ttl.{Ttl}
 use Rattle.config.specs.Limits.{recordWords}
 use Rattle.table.specs.declared.TemplateRecord.{TemplateRecord}
-use Rattle.table.specs.Layout.{entriesAt}
-use Rattle.table.specs.Table.{entriesFrom, recordsFrom}
-use Rattle.table_entries.specs.Sweep.{swept}
+use Rattle.table.specs.Table.{recordsFrom}
 use Rattle.table_records.specs.Add.{Adds}
 use Rattle.table_records.specs.Choose.{skipping}
 use Rattle.table_records.proofs.Skips.{length-skipping}
 use Rattle.pending_flows.specs.declared.header.HeaderFigures.{HeaderFigures}
 use Rattle.pending_calls.specs.declared.removal.Removed.{Removed}
-use Rattle.pending_calls.specs.Removal.{counted, Removes}
+use Rattle.pending_calls.specs.Removal.{Removes}
 use Rattle.pending_drain.specs.Handing.{zeros, unexpired, TakesOut, HandsOut}
 
 pub length-zeros : length zeros ≡ 1024
@@ -31,17 +29,10 @@ module _ (p k : ℕ) (t : TemplateRecord) (w : List ℕ) where
   pub some-handed : {w′ : List ℕ} → (t .count ≡ 0 → ⊥) → Adds p k t w w′ → HandsOut p k t w w′ 1
   some-handed n a = record { nothing = λ e. absurd (n e); some = λ _. (refl, a) }
 
-module _ (ttl : Ttl) (clock label p : ℕ) (f : HeaderFigures) (w w′ : List ℕ) (r : Removed) where
-  abbrev Removing : List ℕ → List ℕ → Type 0
-  Removing skip kept =
-      Removes (unexpired ttl clock label) p (f .templates + f .chance) (f .entries) label skip zeros w w′ kept r
-
-  abbrev countsLeft : List ℕ → List ℕ
-  countsLeft skip =
-      set (counted zeros (swept (unexpired ttl clock label) skip (entriesFrom w entriesAt (f .entries)))) label 0
-
-  pub taken-out : {skip kept : List ℕ} →
-      skip ≡ skipping zeros (recordsFrom w (p + recordWords * f .templates) (f .chance)) → Removing skip kept →
-      TakesOut ttl clock label p f w w′ r
-  taken-out {skip} e d =
-      subst (λ (s : List ℕ). Removing s (countsLeft s)) e (subst (Removing skip) (d .counts) d)
+pub taken-out : (ttl : Ttl) (clock label p : ℕ) (f : HeaderFigures) (w w′ : List ℕ) (r : Removed) {skip : List ℕ} →
+    skip ≡ skipping zeros (recordsFrom w (p + recordWords * f .templates) (f .chance)) →
+    Removes (unexpired ttl clock label) p (f .templates + f .chance) (f .entries) label skip w w′ r →
+    TakesOut ttl clock label p f w w′ r
+taken-out ttl clock label p f w w′ r e d =
+    subst (λ (skip : List ℕ). Removes (unexpired ttl clock label) p (f .templates + f .chance) (f .entries) label skip
+    w w′ r) e d

@@ -68,32 +68,32 @@ module _ (w b : List ℕ) (legal : LegalWords w (length b)) where
   pub held-limited : Limits.Within (limitsOf w) limitsAlone [] (cacheOf (tableOf w) b .held)
   held-limited = held-within (cacheOf (tableOf w) b) (legal-limited w b legal)
 
-  module _ {q : StayTest} {a : ℕ} {skip w′ kept : List ℕ} {r : Removed}
-      (done : Removes q (recordsAt (limitsOf w)) (heldCount w + chanceCount w) (entryCount w) a skip zeros w w′ kept
-      r) where
-    pub removed-tied : TiedRowsApart a (recordsAt (limitsOf w)) (r .records) (r .entries) w′
-    removed-tied =
-        rows-left (rows-tied w (length b) legal) (limitsOf w .«max_total_bytes») (rows-placed w (length b) legal)
-        (few-templates w (length b) legal) (few-bodies w (length b) legal) (total-short w (length b) legal) done
+  module _ {q : StayTest} {a : ℕ} {skip w′ : List ℕ} {r : Removed}
+      (done : Removes q (recordsAt (limitsOf w)) (heldCount w + chanceCount w) (entryCount w) a skip w w′ r)
+    where
+      pub removed-tied : TiedRowsApart a (recordsAt (limitsOf w)) (r .records) (r .entries) w′
+      removed-tied =
+          rows-left (rows-tied w (length b) legal) (limitsOf w .«max_total_bytes») (rows-placed w (length b) legal)
+          (few-templates w (length b) legal) (few-bodies w (length b) legal) (total-short w (length b) legal) done
 
-    pub removed-placed : Placed 0 (limitsOf w .«max_total_bytes») (entriesFrom w′ entriesAt (r .entries))
-    removed-placed =
-        placed-left (rows-tied w (length b) legal) (limitsOf w .«max_total_bytes») (rows-placed w (length b) legal)
-        (few-templates w (length b) legal) (few-bodies w (length b) legal) (total-short w (length b) legal) done
+      pub removed-placed : Placed 0 (limitsOf w .«max_total_bytes») (entriesFrom w′ entriesAt (r .entries))
+      removed-placed =
+          placed-left (rows-tied w (length b) legal) (limitsOf w .«max_total_bytes») (rows-placed w (length b) legal)
+          (few-templates w (length b) legal) (few-bodies w (length b) legal) (total-short w (length b) legal) done
 
-    pub removed-below : entriesAt + entryWords * r .entries ≤ recordsAt (limitsOf w)
-    removed-below = omega (arith, done .few-entries, entries-below-records w (length b) legal)
+      pub removed-below : entriesAt + entryWords * r .entries ≤ recordsAt (limitsOf w)
+      removed-below = omega (arith, done .few-entries, entries-below-records w (length b) legal)
 
-    -- the lengths of what is left can be summed, but those of any label
-    pub removed-fits : (out : ℕ) → heldSum out (entriesFrom w′ entriesAt (r .entries)) ≤ 18446744073709551615
-    removed-fits out =
-        omega (
-          arith,
-          held-fits out (limitsOf w .«max_total_bytes») (entriesFrom w′ entriesAt (r .entries)) removed-placed,
-          legal .limits-legal .total-small,
-        )
+      -- the lengths of what is left can be summed, but those of any label
+      pub removed-fits : (out : ℕ) → heldSum out (entriesFrom w′ entriesAt (r .entries)) ≤ 18446744073709551615
+      removed-fits out =
+          omega (
+            arith,
+            held-fits out (limitsOf w .«max_total_bytes») (entriesFrom w′ entriesAt (r .entries)) removed-placed,
+            legal .limits-legal .total-small,
+          )
 
-    pub removed-apart : a < 1024 → r .apart ≡ tally a (entriesFrom w′ entriesAt (r .entries))
-    removed-apart =
-        apart-left (rows-tied w (length b) legal) (limitsOf w .«max_total_bytes») (rows-placed w (length b) legal)
-        (few-templates w (length b) legal) (few-bodies w (length b) legal) (total-short w (length b) legal) done
+      pub removed-apart : a < 1024 → r .apart ≡ tally a (entriesFrom w′ entriesAt (r .entries))
+      removed-apart =
+          apart-left (rows-tied w (length b) legal) (limitsOf w .«max_total_bytes») (rows-placed w (length b) legal)
+          (few-templates w (length b) legal) (few-bodies w (length b) legal) (total-short w (length b) legal) done

@@ -109,15 +109,14 @@ module _ (w b : List ℕ) (i : ℕ) (ok : wellFormed w (length b) ≡ true) {l :
     unfolding setEach recordsFrom
     nothing-skipped = rw (none .hands-none)
 
-    pub none-taken : {w′ kept′ : List ℕ} {r : Removed} →
-        Removes everything (recordsAt (limitsOf w)) (heldCount w + chanceCount w) (entryCount w) a zeros zeros w w′
-        kept′ r →
+    pub none-taken : {w′ : List ℕ} {r : Removed} →
+        Removes everything (recordsAt (limitsOf w)) (heldCount w + chanceCount w) (entryCount w) a zeros w w′ r →
         TakesOut (l .ttl) clock a p f w w′ r
-    none-taken {w′} {kept′} {r} done =
+    none-taken {w′} {r} done =
         let whole : swept everything zeros (entriesFrom w entriesAt (f .entries))
         ≡ entriesFrom w entriesAt (f .entries) =
         rw figures (all-swept-stay w (length b) ok) in
         taken-out (l .ttl) clock a p f w w′ r nothing-skipped
         (removes-alike (whole ∙ sym kept-whole)
         (as-read w limits figures from
-        (λ l f p. Removes everything p (f .templates + f .chance) (f .entries) a zeros zeros w w′ kept′ r) done))
+        (λ l f p. Removes everything p (f .templates + f .chance) (f .entries) a zeros w w′ r) done))

@@ -26,7 +26,7 @@ use Rattle.pending_flows.specs.declared.header.HeaderFigures.{HeaderFigures}
 use Rattle.pending_flows.specs.Header.{figuresAt, headerOf}
 use Rattle.pending_flows.specs.View.{areasOf, cacheOf}
 use Rattle.pending_calls.specs.declared.removal.Removed.{Removed}
-use Rattle.pending_calls.specs.Removal.{everything, counted, Removes}
+use Rattle.pending_calls.specs.Removal.{everything, Removes}
 use Rattle.pending_calls.specs.Promises.{Does}
 use Rattle.pending_calls.proofs.Performed.{view-some, damaged-performs, performed, untouched-all}
 use Rattle.pending_calls.proofs.Removed.{records-within}
@@ -47,22 +47,10 @@ use Rattle.pending_drain.proofs.Restored.{put-back-does}
 pub one-skip-long : (label less : ℕ) {skip : List ℕ} → skip ≡ set zeros label less → length skip ≡ 1024
 one-skip-long label less e = ap length e ∙ length-set zeros label less ∙ length-zeros
 
-module _ (label less p : ℕ) (f : HeaderFigures) (w w′ : List ℕ) (r : Removed) where
-  abbrev Removing : List ℕ → List ℕ → Type 0
-  Removing skip kept =
-      Removes everything p (f .templates + f .chance) (f .entries) 1024 skip zeros w w′ kept r
-
-  abbrev countsLeft : List ℕ → List ℕ
-  countsLeft skip = set (counted zeros (swept everything skip (entriesFrom w entriesAt (f .entries)))) 1024 0
-
-  pub taken-back : {q : StayTest} {skip kept : List ℕ} → q ≡ everything → skip ≡ set zeros label less →
-      Removes q p (f .templates + f .chance) (f .entries) 1024 skip zeros w w′ kept r →
-      TakesBack label less p f w w′ r
-  taken-back {skip = skip} {kept = kept} all e d =
-      let removed : Removing skip kept =
-      subst
-      (λ (q : StayTest). Removes q p (f .templates + f .chance) (f .entries) 1024 skip zeros w w′ kept r) all d in
-      subst (λ (s : List ℕ). Removing s (countsLeft s)) e (subst (Removing skip) (removed .counts) removed)
+pub taken-back : (label less p : ℕ) (f : HeaderFigures) (w w′ : List ℕ) (r : Removed) {q : StayTest} {skip : List ℕ} →
+    q ≡ everything → skip ≡ set zeros label less →
+    Removes q p (f .templates + f .chance) (f .entries) 1024 skip w w′ r → TakesBack label less p f w w′ r
+taken-back label less p f w w′ r all e d = rw (← all, ← e) d
 
 -- ---- a well-formed cache
 
@@ -74,11 +62,11 @@ pub record Settling (left : ℕ) (w : List ℕ) : Type 0 where
 
 module _ (w b : List ℕ) (ok : wellFormed w (length b) ≡ true) {l : PendingFlowsConfig} {f : HeaderFigures} {p : ℕ}
     (limits : l ≡ limitsOf w) (figures : f ≡ figuresAt w) (from : p ≡ recordsAt l) {q : StayTest} {a : ℕ}
-    {skip w′ kept : List ℕ} {r : Removed} where
-  pub settling : Removes q p (f .templates + f .chance) (f .entries) a skip zeros w w′ kept r → length w′ ≡ length w →
+    {skip w′ : List ℕ} {r : Removed} where
+  pub settling : Removes q p (f .templates + f .chance) (f .entries) a skip w w′ r → length w′ ≡ length w →
       Settling (r .entries) w′
   settling taken long = as-read w limits figures from
-      (λ l f p. Removes q p (f .templates + f .chance) (f .entries) a skip zeros w w′ kept r → Settling (r .entries) w′)
+      (λ l f p. Removes q p (f .templates + f .chance) (f .entries) a skip w w′ r → Settling (r .entries) w′)
       (λ k. record {
         entries-fit = omega (
           arith,

@@ -95,7 +95,7 @@ module _ (w b : List ℕ) (i now : ℕ) where
     single = handed-single w b legal
 
     module _ {w′ : List ℕ} {r : Removed} (taken : TakesOut (l .ttl) now label p (figuresAt w) w w′ r) where
-      out : Removes test p (n + chanceCount w) (entryCount w) label (skipping zeros handed) zeros w w′ kept r
+      out : Removes test p (n + chanceCount w) (entryCount w) label (skipping zeros handed) w w′ r
       out = rw (records-behind w p n (chanceCount w)) taken
 
       abbrev es′ : List Entry
@@ -109,8 +109,7 @@ module _ (w b : List ℕ) (i now : ℕ) where
 
       records-are : rs′ ≡ closed kept (held ++ handed)
       records-are =
-          out .records ∙ ap (λ (k : List ℕ). closed k (records w)) (out .counts)
-          ∙ ap (closed kept) (sym (take-append-drop n (records w)))
+          out .records ∙ ap (closed kept) (sym (take-append-drop n (records w)))
 
       pub out-tied : TiedRowsApart label p (r .records) (r .entries) w′
       out-tied = removed-tied w b legal out
@@ -152,8 +151,8 @@ module _ (w b : List ℕ) (i now : ℕ) where
           by-label : Dec (label ≡ 1024) → r .apart ≡ tally label es′
           by-label (yes d) =
               let long = length-summed everything false zeros left in
-              let none : getD (counted zeros left) label 0 ≡ 0 =
-              List·getD-eq-default {A = ℕ} (counted zeros left) 0 {n = label} (omega (arith, long, length-zeros)) in
+              let none : getD (counted left) label 0 ≡ 0 =
+              List·getD-eq-default {A = ℕ} (counted left) 0 {n = label} (omega (arith, long, length-zeros)) in
               out .bodies-apart ∙ none ∙ sym (ap (λ (k : ℕ). tally k es′) d ∙ none-above es′ (out-tied .entries-small))
           by-label (no d) =
               removed-apart w b legal out

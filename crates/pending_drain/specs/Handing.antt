@@ -4,21 +4,19 @@ use mathlib.Core.Path.{_≡_}
 use mathlib.Core.Bool.{false}
 use mathlib.Core.List.{List}
 use Prim.Native.Nat.{ℕ, _+_, _*_, _<_}
-use lib.ListN.{set, replicate}
+use lib.ListN.{replicate}
 use Rattle.config.specs.declared.Ttl.{Ttl}
 use Rattle.config.specs.Limits.{recordWords}
 use Rattle.table.specs.declared.Entry.{Entry}
 use Rattle.table.specs.declared.TemplateRecord.{TemplateRecord}
-use Rattle.table.specs.Layout.{entriesAt}
-use Rattle.table.specs.Table.{entriesFrom, recordsFrom, tally}
+use Rattle.table.specs.Table.{recordsFrom, tally}
 use Rattle.table.specs.Reads.{liveCount}
 use Rattle.table_entries.specs.declared.StayTest.{StayTest}
-use Rattle.table_entries.specs.Sweep.{swept}
 use Rattle.table_records.specs.Add.{Adds}
 use Rattle.table_records.specs.Choose.{skipping}
 use Rattle.pending_flows.specs.declared.header.HeaderFigures.{HeaderFigures}
 use Rattle.pending_calls.specs.declared.removal.Removed.{Removed}
-use Rattle.pending_calls.specs.Removal.{counted, Removes}
+use Rattle.pending_calls.specs.Removal.{Removes}
 
 abbrev pub zeros : List ℕ
 zeros = replicate 1024 0
@@ -39,8 +37,7 @@ abbrev pub TakesOut : Ttl → ℕ → ℕ → ℕ → HeaderFigures → List ℕ
 TakesOut ttl clock label p f w w′ r =
     let q = unexpired ttl clock label in
     let skip = skipping zeros (recordsFrom w (p + recordWords * f .templates) (f .chance)) in
-    Removes q p (f .templates + f .chance) (f .entries) label skip zeros w w′
-    (set (counted zeros (swept q skip (entriesFrom w entriesAt (f .entries)))) label 0) r
+    Removes q p (f .templates + f .chance) (f .entries) label skip w w′ r
 
 -- nothing is handed out already, and no body of the label is expired
 pub record NothingGoes (ttl : Ttl) (clock label chance : ℕ) (es : List Entry) : Type 0 where

@@ -6,14 +6,12 @@ use mathlib.Core.List.{List, [], _∷_}
 use Prim.Native.Nat.{ℕ, _+_, _≤_}
 use lib.ListN.{set}
 use Rattle.table.specs.declared.TemplateRecord.{TemplateRecord}
-use Rattle.table.specs.Layout.{entriesAt}
-use Rattle.table.specs.Table.{tableOf, entriesFrom}
-use Rattle.table_entries.specs.Sweep.{swept}
+use Rattle.table.specs.Table.{tableOf}
 use Rattle.cache_model.specs.Calls.{mayPutBack}
 use Rattle.pending_flows.specs.declared.header.HeaderFigures.{HeaderFigures}
 use Rattle.pending_flows.specs.View.{cacheOf}
 use Rattle.pending_calls.specs.declared.removal.Removed.{Removed}
-use Rattle.pending_calls.specs.Removal.{everything, counted, Removes}
+use Rattle.pending_calls.specs.Removal.{everything, Removes}
 use Rattle.pending_drain.specs.declared.restoring.ChanceFound.{ChanceFound}
 use Rattle.pending_drain.specs.declared.restoring.ChanceFound.the-variants as Chance
 use Rattle.pending_drain.specs.Handing.{zeros}
@@ -31,6 +29,4 @@ pub record FindsChance (id n : ℕ) (w b : List ℕ) (r : ChanceFound) : Type 0 
 -- the oldest bodies of a label go, so many of them, and no others; from word p on stand the records
 abbrev pub TakesBack : ℕ → ℕ → ℕ → HeaderFigures → List ℕ → List ℕ → Removed → Type 0
 TakesBack label less p f w w′ r =
-    let skip = set zeros label less in
-    Removes everything p (f .templates + f .chance) (f .entries) 1024 skip zeros w w′
-    (set (counted zeros (swept everything skip (entriesFrom w entriesAt (f .entries)))) 1024 0) r
+    Removes everything p (f .templates + f .chance) (f .entries) 1024 (set zeros label less) w w′ r

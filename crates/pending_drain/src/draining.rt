@@ -78,7 +78,6 @@ fn take_out(
         max_size: 18446744073709551615,
     };
     let mut skip = [0; LABELS];
-    let mut kept = [0; LABELS];
     skip_records(words, from + RECORD_WORDS * held, chance, &mut skip);
     remove(
         words,
@@ -88,7 +87,6 @@ fn take_out(
         test,
         &mut skip,
         label,
-        &mut kept,
     )
 }
 
@@ -141,8 +139,7 @@ fn take_label(
 {
     let ttl = limits.ttl;
     if nothing_goes(words, from, figures, ttl, clock, label, id) {
-        let mut kept = [0; LABELS];
-        return remove_none(words, bytes, limits, figures, label, &mut kept);
+        return remove_none(words, bytes, limits, figures, label);
     }
     take_out(words, from, figures, ttl, clock, label)
 }

@@ -84,7 +84,6 @@ fn take_back(
 {
     let records = (figures.templates as usize) + (figures.chance as usize);
     let mut skip = [0; LABELS];
-    let mut kept = [0; LABELS];
     set_sum(&mut skip, label, less);
     remove(
         words,
@@ -94,7 +93,6 @@ fn take_back(
         stay_all(),
         &mut skip,
         LABELS as u64,
-        &mut kept,
     )
 }
 

@@ -26,7 +26,6 @@ use Rattle.table_entries.specs.Sums.{heldSum}
 use Rattle.table_entries.specs.Pack.{packedEnd}
 use Rattle.table_entries.proofs.Lengths.{lensSum, held-all, placed-wider}
 use Rattle.table_entries.proofs.Packed.{packed-end}
-use Rattle.table_entries.proofs.LabelSums.{zeros}
 use Rattle.table_records.specs.Add.{inserted}
 use Rattle.table_records.proofs.AddedIndex.{index-after-adding}
 use Rattle.cache_model.specs.Bodies.{Body, Template, size, sumBodies, sumTemplates, bodiesOf}
@@ -45,10 +44,10 @@ use Rattle.table_view.proofs.Added.{same-tally, same-labels-apart}
 use Rattle.table_view.proofs.Stored.{tied-legal}
 use Rattle.pending_calls.specs.declared.removal.Removed.{Removed}
 use Rattle.pending_calls.specs.Removal.{Removes}
-use Rattle.pending_offer.specs.declared.plan.OfferPlan.{OfferPlan}
+use Rattle.offer_plan.specs.declared.plan.OfferPlan.{OfferPlan}
+use Rattle.offer_plan.specs.Plan.{planTest, skipOf, Plans}
 use Rattle.pending_offer.specs.Promises.{bodyOf}
-use Rattle.pending_offer.specs.Plan.{planTest, Plans}
-use Rattle.pending_offer.specs.Room.{roomEntries, roomBytes, roomPlace, newEntry, chosenLabel}
+use Rattle.pending_offer.specs.Room.{roomEntries, roomBytes, roomPlace, newEntry, ChoosesLabel}
 use Rattle.pending_offer.proofs.Rooms.{Room, room-made}
 use Rattle.pending_offer.proofs.Settled.{outcome, settled-limited}
 use Rattle.pending_offer.proofs.Left.{left-placed}
@@ -92,18 +91,16 @@ lens-apart {a} {rs} {es} b most h placed lent small =
 -- removal leaves; the label that is chosen.
 pub record Accepting (w b : List ℕ) (l′ : PendingFlowsConfig) (i : ℕ) (body : List ℕ) (clock : ℕ) (plan : OfferPlan)
     (w₁ : List ℕ) (left : Removed) (a : ℕ) : Type 0 where
-  pub skip : List ℕ  -- how many bodies of each label the plan skips
-  pub kept : List ℕ  -- how many of each label the removal leaves
   pub ok : wellFormed w (length b) ≡ true
   pub limits : l′ ≡ limitsOf w
   pub id : i < 65536
   pub small : length body ≤ limitsOf w .«max_entry_size_bytes»
-  pub plans : Plans w b i (length body) clock skip plan
+  pub plans : Plans w b i (length body) clock plan
   pub room : plan .full ≡ false
   pub removed : Removes (planTest (limitsOf w) clock plan) (recordsAt (limitsOf w)) (heldCount w + chanceCount w)
-      (entryCount w) (plan .label) skip zeros w w₁ kept left
+      (entryCount w) (plan .label) (skipOf w plan) w w₁ left
   pub long : length w₁ ≡ length w
-  pub label : a ≡ chosenLabel (plan .label) kept
+  pub label : ChoosesLabel (plan .label) (recordsFrom w₁ (recordsAt l′) (left .records)) a
 
 module _ {w b : List ℕ} {l′ : PendingFlowsConfig} {i : ℕ} {body : List ℕ} {clock : ℕ} {plan : OfferPlan}
     {w₁ : List ℕ} {left : Removed} {a : ℕ} (known : Accepting w b l′ i body clock plan w₁ left a) where
@@ -150,7 +147,8 @@ module _ {w b : List ℕ} {l′ : PendingFlowsConfig} {i : ℕ} {body : List ℕ
   placed-before = left-placed w b (known .ok) i clock (length body) (plan .label) (known .plans) (known .removed)
 
   pub chosen : Chosen (recordsAt (limitsOf w)) left w₁ b own a
-  chosen = label-chosen w b (known .ok) i x (known .small) (known .plans) (known .room) (known .removed) (known .label)
+  chosen = label-chosen w b (known .ok) i x (known .small) (known .plans) (known .room) (known .removed)
+      (rw (known .limits) at (known .label))
 
   rest-is : templatesAt b es rs ≡ rest
   rest-is = others-left w b (known .ok) i x (known .small) (known .plans) (known .room) (known .removed)

@@ -22,7 +22,7 @@ use Rattle.pending_flows.specs.Header.{figuresAt, headerOf}
 use Rattle.pending_calls.specs.declared.removal.Removed.{Removed}
 use Rattle.pending_calls.specs.Promises.{Does}
 use Rattle.pending_calls.proofs.Removed.{TiedRows}
-use Rattle.pending_offer.specs.declared.plan.OfferPlan.{OfferPlan}
+use Rattle.offer_plan.specs.declared.plan.OfferPlan.{OfferPlan}
 use Rattle.pending_offer.specs.Promises.{bodyOf}
 use Rattle.pending_offer.specs.Room.{RoomFor, AddsBody}
 use Rattle.pending_offer.specs.Settle.{settledFigures}

@@ -1,11 +1,10 @@
 -- A body put behind the others, from its steps: the room, the entry and its bytes, the record. Assumes nothing.
-use mathlib.Core.Path.{_≡_, ap, _∙_, subst}
+use mathlib.Core.Path.{_≡_, refl, ap, _∙_, subst}
 use mathlib.Core.Bool.{true}
 use mathlib.Core.List.{List}
 use Prim.Native.Nat.{ℕ, _+_, _*_, _≤_, _<_}
 use native.Mathlib.Omega.{arith}
 use lib.ListN.{length}
-use borrow.Author.Tests.{lt-ltb, le-ltb}
 use Rattle.config.specs.declared.PendingFlowsConfig.{PendingFlowsConfig}
 use Rattle.config.specs.Limits.{recordWords, entryWords}
 use Rattle.areas.proofs.Puts.{drop-more}
@@ -16,18 +15,18 @@ use Rattle.table.specs.WellFormed.{indexRises}
 use Rattle.table.proofs.Facts.{places-say}
 use Rattle.table_entries.proofs.Frames.{entries-below}
 use Rattle.table_records.specs.Add.{Adds}
-use Rattle.table_records.specs.Choose.{freeLabel}
+use Rattle.table_records.specs.Choose.{FreeLabel}
 use Rattle.table_records.proofs.Frames.{records-above, index-above}
-use Rattle.pending_offer.specs.Room.{MakesRoom, entryOf, StoresBody, RoomFor, AddsBody, chosenLabel}
+use Rattle.pending_offer.specs.Room.{MakesRoom, entryOf, StoresBody, RoomFor, AddsBody, ChoosesLabel}
 use Rattle.pending_offer.proofs.Rooms.{room-made}
 
 -- the label that is chosen
-pub label-kept : (label : ℕ) (kept : List ℕ) → label < 1024 → label ≡ chosenLabel label kept
-label-kept label kept h = rw (lt-ltb label 1024 h)
+pub label-kept : (label : ℕ) (rs : List TemplateRecord) → label < 1024 → ChoosesLabel label rs label
+label-kept label rs h = record { held = λ _. refl; free = λ past. absurd (omega arith) }
 
-pub label-free : (label free : ℕ) (kept : List ℕ) → 1024 ≤ label → free ≡ freeLabel kept 0 1024 →
-    free ≡ chosenLabel label kept
-label-free label free kept h is = rw (le-ltb label 1024 h) is
+pub label-free : (label free : ℕ) (w : List ℕ) (l : PendingFlowsConfig) (p k : ℕ) → 1024 ≤ label → p ≡ recordsAt l →
+    FreeLabel (recordsFrom w p k) free → ChoosesLabel label (recordsFrom w (recordsAt l) k) free
+label-free label free w l p k h from is = record { held = λ small. absurd (omega arith); free = λ _. rw from at is }
 
 module _ {l : PendingFlowsConfig} {k m : ℕ} (body : List ℕ) {w b : List ℕ} (room : RoomFor l k m (length body) w b)
     {w₁ b₁ : List ℕ} {place : ℕ} (made : MakesRoom m (length body) (l .«max_total_bytes») w b w₁ b₁ place) where

@@ -8,6 +8,7 @@ use native.Mathlib.Omega.{arith}
 use lib.Dec.{eqb, ltb}
 use lib.ListN.{length, getD, replicate, length-append, length-replicate, List·getD-eq-default}
 use borrow.Author.Tests.{eqb-true, eq-eqb, ltb-true, ltb-false}
+use Rattle.config.specs.declared.PendingFlowsConfig.{PendingFlowsConfig}
 use Rattle.config.proofs.Lists.{All, all-map, all-both}
 use Rattle.table.specs.declared.Entry.{Entry}
 use Rattle.table.specs.declared.TemplateRecord.{TemplateRecord}
@@ -16,13 +17,12 @@ use Rattle.table.specs.Table.{tableOf, entriesFrom, recordsFrom, indexFrom, has
 use Rattle.table.specs.WellFormed.{wellFormed}
 use Rattle.table.proofs.Words.{length-records}
 use Rattle.table.proofs.Facts.{LegalRecord, LegalWords, words-say, differ-front}
-use Rattle.table.proofs.Labels.{absent-says, label-says, absent-tally}
+use Rattle.table.proofs.Labels.{absent-says, absent-tally}
 use Rattle.table.proofs.FoundLabels.{found-has, found-alone, labelFor}
 use Rattle.table_entries.proofs.Swept.{all-swept}
-use Rattle.table_entries.proofs.LabelSums.{length-summed, zeros}
-use Rattle.table_records.specs.Choose.{freeLabel}
+use Rattle.table_entries.proofs.LabelSums.{length-summed}
+use Rattle.table_records.specs.Choose.{FreeLabel}
 use Rattle.table_records.specs.Close.{closed}
-use Rattle.table_records.proofs.FreeLabels.{free-label}
 use Rattle.table_records.proofs.Closed.{closed-all}
 use Rattle.cache_model.specs.Bodies.{Body, size, bodiesOf}
 use Rattle.cache_model.specs.Offer.{settled}
@@ -35,11 +35,11 @@ use Rattle.table_view.proofs.Summed.{everything}
 use Rattle.pending_calls.specs.declared.removal.Removed.{Removed}
 use Rattle.pending_calls.specs.Removal.{Removes}
 use Rattle.pending_calls.proofs.Removed.{TiedRowsApart}
-use Rattle.pending_offer.specs.declared.plan.OfferPlan.{OfferPlan}
-use Rattle.pending_offer.specs.Plan.{planTest, Plans}
-use Rattle.pending_offer.specs.Room.{chosenLabel}
+use Rattle.offer_plan.specs.declared.plan.OfferPlan.{OfferPlan}
+use Rattle.offer_plan.specs.Plan.{planTest, skipOf, Plans}
+use Rattle.pending_offer.specs.Room.{LabelRoom, ChoosesLabel}
 use Rattle.pending_offer.proofs.Settled.{outcome, settled-limited}
-use Rattle.pending_offer.proofs.Left.{staying, held-legal, bodies-left, kept-other, templates-left}
+use Rattle.pending_offer.proofs.Left.{staying, held-legal, bodies-left, templates-left}
 use Rattle.pending_offer.proofs.Left.{left-rows, left-apart, left-entries, left-records}
 use Rattle.pending_offer.proofs.Outcomes.{leaves, others, leaves-nothing, accepted-held}
 
@@ -50,32 +50,9 @@ pub record Chosen (p : ℕ) (left : Removed) (w b : List ℕ) (bs : List Body) (
   pub bodies : bodiesAt b a (entriesFrom w entriesAt (left .entries)) ≡ bs
   pub count : left .apart ≡ tally a (entriesFrom w entriesAt (left .entries))
 
--- a label that entries have is a record's
-tallied-known : (k : ℕ) (rs : List TemplateRecord) (es : List Entry) → All (λ e. hasLabel (e .label) rs ≡ true) es →
-    0 < tally k es → hasLabel k rs ≡ true
-tallied-known k rs es known some = by-test (hasLabel k rs) refl
-  where
-    by-test : (t : Bool) → hasLabel k rs ≡ t → t ≡ true
-    by-test true e = refl
-    by-test false e = absurd (omega (arith, absent-tally k rs es (absent-says k rs e) known))
-
--- and a label without entries is none's
-untallied-absent : (k : ℕ) {rs : List TemplateRecord} {es : List Entry} {is : List ℕ} → Tied rs es is →
-    tally k es ≡ 0 → hasLabel k rs ≡ false
-untallied-absent k {rs} {es} tied none = by-test (hasLabel k rs) refl
-  where
-    by-test : (t : Bool) → hasLabel k rs ≡ t → t ≡ false
-    by-test true e =
-        let some : 0 < tally k es =
-        label-says (λ j. 0 < tally j es) k rs
-        (all-both (λ r. r .count ≡ tally (r .label) es) (λ r. 0 < r .count) (λ r. 0 < tally (r .label) es)
-        (λ r c s. omega arith) rs (tied .counts-right) (tied .some-bodies)) e in
-        absurd (omega arith)
-    by-test false e = refl
-
 module _ (w b : List ℕ) (ok : wellFormed w (length b) ≡ true) (i : ℕ) (x : Body)
-    (small : size x ≤ limitsOf w .«max_entry_size_bytes») {skip : List ℕ} {plan : OfferPlan}
-    (plans : Plans w b i (size x) (x .clock) skip plan) where
+    (small : size x ≤ limitsOf w .«max_entry_size_bytes») {plan : OfferPlan}
+    (plans : Plans w b i (size x) (x .clock) plan) where
   legal : LegalWords w (length b)
   legal = words-say w (length b) ok
 
@@ -86,7 +63,7 @@ module _ (w b : List ℕ) (ok : wellFormed w (length b) ≡ true) (i : ℕ) (x :
   held = tableOf w .held
 
   abbrev stay : List Entry
-  stay = staying w (x .clock) skip plan
+  stay = staying w (x .clock) plan
 
   abbrev Legal : TemplateRecord → Type 0
   Legal = LegalRecord (limitsOf w) entries
@@ -98,7 +75,7 @@ module _ (w b : List ℕ) (ok : wellFormed w (length b) ≡ true) (i : ℕ) (x :
       let labels = differ-front (λ u. u .label) held (tableOf w .handed) (legal .table-legal .labels-differ) in
       rw (plans .label)
       (found-alone i held keys labels
-      (all-map Legal (λ u. u .label < 1024) (λ u h. h .label-small) held (held-legal w b ok (x .clock) skip plan)))
+      (all-map Legal (λ u. u .label < 1024) (λ u h. h .label-small) held (held-legal w b ok (x .clock) plan)))
 
   all-labels : All (λ e. e .label < 1024) entries
   all-labels =
@@ -111,15 +88,15 @@ module _ (w b : List ℕ) (ok : wellFormed w (length b) ≡ true) (i : ℕ) (x :
   none-stay : tally 1024 stay ≡ 0
   none-stay =
       none-above stay
-      (all-swept (λ e. e .label < 1024) (planTest (limitsOf w) (x .clock) plan) skip entries all-labels)
+      (all-swept (λ e. e .label < 1024) (planTest (limitsOf w) (x .clock) plan) (skipOf w plan) entries all-labels)
 
   -- the other ids' templates
   others-stay : templatesAt b stay (closed (labelCountsBut (plan .label) stay) held)
       ≡ thinned (others w b ok i x small) (cacheOf (tableOf w) b .held)
   others-stay =
-      templates-left w b ok (x .clock) skip plan i (size x) plans (plan .label) (others w b ok i x small)
+      templates-left w b ok (x .clock) plan i (size x) plans (plan .label) (others w b ok i x small)
       (all-both (λ u. eqb (plan .label) (u .label) ≡ eqb i (u .key)) _ _ (λ u e g. rw (e, g)) held agrees
-      (bodies-left w b ok (x .clock) skip plan i (size x) plans x refl))
+      (bodies-left w b ok (x .clock) plan i (size x) plans x refl))
 
   -- the id's own bodies
   own-stay : bodiesAt b (plan .label) stay ≡ leaves w b ok i x small i (bodiesOf i (cacheOf (tableOf w) b .held))
@@ -127,7 +104,7 @@ module _ (w b : List ℕ) (ok : wellFormed w (length b) ≡ true) (i : ℕ) (x :
       let f = leaves w b ok i x small in
       let own : bodiesAt b (labelFor i held) stay ≡ f i (bodiesAt b (labelFor i held) entries) =
       found-has i (λ j k. bodiesAt b k stay ≡ f j (bodiesAt b k entries)) held
-      (bodies-left w b ok (x .clock) skip plan i (size x) plans x refl)
+      (bodies-left w b ok (x .clock) plan i (size x) plans x refl)
       (rw (no-bodies b 1024 stay none-stay, no-bodies b 1024 entries none-before)
       (sym (leaves-nothing w b ok i x small))) in
       ap (λ (k : ℕ). bodiesAt b k stay) (plans .label) ∙ own
@@ -146,9 +123,9 @@ module _ (w b : List ℕ) (ok : wellFormed w (length b) ≡ true) (i : ℕ) (x :
       kept : List ℕ
       kept = labelCountsBut (plan .label) stay
 
-  module _ (room : plan .full ≡ false) {w₁ kept₁ : List ℕ} {left : Removed}
+  module _ (room : plan .full ≡ false) {w₁ : List ℕ} {left : Removed}
       (done : Removes (planTest (limitsOf w) (x .clock) plan) (recordsAt (limitsOf w)) (heldCount w + chanceCount w)
-      (entryCount w) (plan .label) skip zeros w w₁ kept₁ left) where
+      (entryCount w) (plan .label) (skipOf w plan) w w₁ left) where
     abbrev from : ℕ
     from = recordsAt (limitsOf w)
 
@@ -202,32 +179,26 @@ module _ (w b : List ℕ) (ok : wellFormed w (length b) ≡ true) (i : ℕ) (x :
       count = left-apart w b ok i (x .clock) (size x) (plan .label) plans done h;
     }
 
-    -- it is not: a free label
-    module _ (none : plan .label ≡ 1024) where
-      free : ℕ
-      free = freeLabel kept₁ 0 1024
+    -- the words have room for a record more, and there is a label for it
+    pub label-room : {l : PendingFlowsConfig} → l ≡ limitsOf w → length w₁ ≡ length w → LabelRoom l (left .records) w₁
+    label-room {l} limits long =
+        subst (λ (k : PendingFlowsConfig). LabelRoom k (left .records) w₁) (sym limits)
+        (record {
+          few = omega (arith, few-left, legal .limits-legal .templates-few);
+          bodies-few = legal .limits-legal .bodies-few;
+          within = omega (arith, few-left, legal .limits-legal .words-enough);
+        })
 
+    -- it is not: a label that no record has
+    module _ (none : plan .label ≡ 1024) (a : ℕ) (free : FreeLabel records₁ a) where
       tied₁ : Tied records₁ entries₁ (indexFrom w₁ from (left .records))
       tied₁ =
           no-label-tied
-          (subst (λ (a : ℕ). TiedRowsApart a from (left .records) (left .entries) w₁) none
+          (subst (λ (k : ℕ). TiedRowsApart k from (left .records) (left .entries) w₁) none
           (left-rows w b ok i (x .clock) (size x) (plan .label) plans done))
 
-      kept-is : (k : ℕ) → k < 1024 → getD kept₁ k 0 ≡ tally k entries₁
-      kept-is k h =
-          ap (λ (l : List ℕ). getD l k 0) (done .counts)
-          ∙ kept-other w b ok (x .clock) skip plan i (size x) plans (plan .label) k h (λ e. omega arith)
-          ∙ ap (tally k) (sym entries-are)
-
-      free-is : (free < 1024) × (getD kept₁ free 0 ≡ 0)
-      unfolding free
-      free-is =
-          free-label kept₁ records₁
-          (omega (arith, few-left, legal .limits-legal .templates-few, length-records w₁ from (left .records)))
-          (λ k h some. tallied-known k records₁ entries₁ (tied₁ .labels-known) (omega (arith, kept-is k h)))
-
-      untallied : tally free entries₁ ≡ 0
-      untallied = sym (kept-is free (free-is .0)) ∙ free-is .1
+      untallied : tally a entries₁ ≡ 0
+      untallied = absent-tally a records₁ entries₁ (absent-says a records₁ (free .absent)) (tied₁ .labels-known)
 
       none-apart : getD (labelCounts stay) (plan .label) 0 ≡ 0
       none-apart =
@@ -235,30 +206,31 @@ module _ (w b : List ℕ) (ok : wellFormed w (length b) ≡ true) (i : ℕ) (x :
           List·getD-eq-default (labelCounts stay) 0 {n = plan .label}
           (omega (arith, length-summed everything false (replicate 1024 0) stay))
 
-      free-chosen : Chosen from left w₁ b own free
+      free-chosen : Chosen from left w₁ b own a
       free-chosen = record {
-        below = free-is .0;
-        tied = tied-apart (untallied-absent free tied₁ untallied) tied₁;
-        bodies = no-bodies b free entries₁ untallied
+        below = free .below;
+        tied = tied-apart (free .absent) tied₁;
+        bodies = no-bodies b a entries₁ untallied
             ∙ sym (no-bodies b (plan .label) entries₁ (rw (none, entries-are) none-stay)) ∙ own-left;
         count = done .bodies-apart ∙ none-apart ∙ sym untallied;
       }
 
-    pub label-chosen : {a : ℕ} → a ≡ chosenLabel (plan .label) kept₁ → Chosen from left w₁ b own a
-    unfolding free
-    label-chosen {a} is = subst (Chosen from left w₁ b own) (sym is) (by-test (ltb (plan .label) 1024) refl)
+    pub label-chosen : {a : ℕ} → ChoosesLabel (plan .label) records₁ a → Chosen from left w₁ b own a
+    label-chosen {a} is = by-test (ltb (plan .label) 1024) refl
       where
-        by-test : (t : Bool) → ltb (plan .label) 1024 ≡ t →
-            Chosen from left w₁ b own (cond t (plan .label) (freeLabel kept₁ 0 1024))
-        by-test true e = held-chosen (ltb-true (plan .label) 1024 e)
+        by-test : (t : Bool) → ltb (plan .label) 1024 ≡ t → Chosen from left w₁ b own a
+        by-test true e =
+            let small : plan .label < 1024 = ltb-true (plan .label) 1024 e in
+            subst (Chosen from left w₁ b own) (sym (is .held small)) (held-chosen small)
         by-test false e =
+            let past : 1024 ≤ plan .label = ltb-false (plan .label) 1024 e in
             free-chosen
             (omega (
               arith,
-              ltb-false (plan .label) 1024 e,
               plans .label,
               found-has i (λ j k. k ≤ 1024) held
                   (all-map Legal (λ u. u .label ≤ 1024) (λ u h. omega (arith, h .label-small)) held
-                  (held-legal w b ok (x .clock) skip plan))
+                  (held-legal w b ok (x .clock) plan))
                   (omega arith),
             ))
+            a (is .free past)

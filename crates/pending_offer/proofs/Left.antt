@@ -24,7 +24,6 @@ use Rattle.table.proofs.Facts.{Placed, LegalRecord, LegalWords, words-say}
 use Rattle.table_entries.specs.Sweep.{swept}
 use Rattle.table_entries.proofs.Lengths.{placed-wider}
 use Rattle.table_entries.proofs.Swept.{length-swept, all-swept}
-use Rattle.table_entries.proofs.LabelSums.{zeros}
 use Rattle.table_records.specs.Choose.{skipAll}
 use Rattle.table_records.specs.Close.{closed}
 use Rattle.cache_model.specs.Bodies.{Body, Template, size, expired, keep}
@@ -42,14 +41,15 @@ use Rattle.pending_calls.specs.declared.removal.Removed.{Removed}
 use Rattle.pending_calls.specs.Removal.{Removes}
 use Rattle.pending_calls.proofs.Removed.{TiedRowsApart, placed-left, apart-left, rows-left, rows-tied}
 use Rattle.pending_calls.proofs.Removed.{rows-placed, few-templates, few-bodies, total-short}
-use Rattle.pending_offer.specs.declared.plan.OfferPlan.{OfferPlan}
-use Rattle.pending_offer.specs.Plan.{planTest, Plans}
+use Rattle.offer_plan.specs.declared.plan.OfferPlan.{OfferPlan}
+use Rattle.offer_plan.specs.Plan.{planTest, skipOf, Plans}
+use Rattle.offer_plan.proofs.Skips.{skips-long}
 
 -- the entries that stay by a plan
-abbrev pub staying : List ℕ → ℕ → List ℕ → OfferPlan → List Entry
-staying w clock skip plan = swept (planTest (limitsOf w) clock plan) skip (tableOf w .entries)
+abbrev pub staying : List ℕ → ℕ → OfferPlan → List Entry
+staying w clock plan = swept (planTest (limitsOf w) clock plan) (skipOf w plan) (tableOf w .entries)
 
-module _ (w b : List ℕ) (ok : wellFormed w (length b) ≡ true) (clock : ℕ) (skip : List ℕ) (plan : OfferPlan) where
+module _ (w b : List ℕ) (ok : wellFormed w (length b) ≡ true) (clock : ℕ) (plan : OfferPlan) where
   legal : LegalWords w (length b)
   legal = words-say w (length b) ok
 
@@ -66,8 +66,11 @@ module _ (w b : List ℕ) (ok : wellFormed w (length b) ≡ true) (clock : ℕ) 
   abbrev templates : List Template
   templates = cacheOf (tableOf w) b .held
 
+  abbrev skip : List ℕ
+  skip = skipOf w plan
+
   abbrev stay : List Entry
-  stay = staying w clock skip plan
+  stay = staying w clock plan
 
   abbrev Legal : TemplateRecord → Type 0
   Legal = LegalRecord (limitsOf w) entries
@@ -94,7 +97,7 @@ module _ (w b : List ℕ) (ok : wellFormed w (length b) ≡ true) (clock : ℕ) 
       (placed-short 0 (limitsOf w .«max_total_bytes») lenMost entries (total-short w (length b) legal)
       (legal .table-legal .entries-placed))) k small
 
-  module _ (i len : ℕ) (plans : Plans w b i len clock skip plan) where
+  module _ (i len : ℕ) (plans : Plans w b i len clock plan) where
     handed-leaving : All (λ u. tally (u .label) stay ≡ 0) handed
     handed-leaving =
         all-both Legal (λ u. getD skip (u .label) 0 ≡ skipAll) (λ u. tally (u .label) stay ≡ 0) leaving handed
@@ -106,7 +109,7 @@ module _ (w b : List ℕ) (ok : wellFormed w (length b) ≡ true) (clock : ℕ) 
             let bs = bodiesAt b (u .label) entries in
             let ys = keep (bodyStays q (u .label)) bs in
             let most = cap-small (limitsOf w) (length b) (length w) (legal .limits-legal) in
-            swept-tally b q (u .label) skip entries (omega (arith, h .label-small, plans .long)) lies-within
+            swept-tally b q (u .label) skip entries (omega (arith, h .label-small, skips-long w plan)) lies-within
             ∙ omega (
               arith,
               length-drop (getD skip (u .label) 0) ys,
@@ -125,7 +128,7 @@ module _ (w b : List ℕ) (ok : wellFormed w (length b) ≡ true) (clock : ℕ) 
       bodies-left =
           let q = planTest (limitsOf w) clock plan in
           all-both Legal _ (λ u. bodiesAt b (u .label) stay ≡ leaves (u .key) (bodiesAt b (u .label) entries))
-          (λ u h thins. swept-bodies b q (u .label) skip entries (omega (arith, h .label-small, plans .long))
+          (λ u h thins. swept-bodies b q (u .label) skip entries (omega (arith, h .label-small, skips-long w plan))
           lies-within ∙ thins) held held-legal (plans .thins x sized)
 
     -- the bodies of the label `apart` are not counted, and its record goes
@@ -133,7 +136,7 @@ module _ (w b : List ℕ) (ok : wellFormed w (length b) ≡ true) (clock : ℕ) 
       abbrev kept : List ℕ
       kept = labelCountsBut apart stay
 
-      pub kept-other : (k : ℕ) → k < 1024 → (k ≡ apart → ⊥) → getD kept k 0 ≡ tally k stay
+      kept-other : (k : ℕ) → k < 1024 → (k ≡ apart → ⊥) → getD kept k 0 ≡ tally k stay
       kept-other k small d = getD-set-other (labelCounts stay) apart k 0 0 d ∙ counted k small
 
       kept-none : (k : ℕ) → k ≡ apart → getD kept k 0 ≡ 0
@@ -189,10 +192,10 @@ module _ (w b : List ℕ) (ok : wellFormed w (length b) ≡ true) (clock : ℕ) 
                     )
 
 -- the rows after the removal: the words that are left
-module _ (w b : List ℕ) (ok : wellFormed w (length b) ≡ true) (i clock len apart : ℕ) {skip : List ℕ} {plan : OfferPlan}
-    (plans : Plans w b i len clock skip plan) {w₁ kept₁ : List ℕ} {left : Removed}
+module _ (w b : List ℕ) (ok : wellFormed w (length b) ≡ true) (i clock len apart : ℕ) {plan : OfferPlan}
+    (plans : Plans w b i len clock plan) {w₁ : List ℕ} {left : Removed}
     (done : Removes (planTest (limitsOf w) clock plan) (recordsAt (limitsOf w)) (heldCount w + chanceCount w)
-    (entryCount w) apart skip zeros w w₁ kept₁ left) where
+    (entryCount w) apart (skipOf w plan) w w₁ left) where
   abbrev most : ℕ
   most = limitsOf w .«max_total_bytes»
 
@@ -215,16 +218,14 @@ module _ (w b : List ℕ) (ok : wellFormed w (length b) ≡ true) (i clock len a
       apart-left (rows-tied w (length b) said) most (rows-placed w (length b) said) (few-templates w (length b) said)
       (few-bodies w (length b) said) (total-short w (length b) said) done
 
-  pub left-entries : entriesFrom w₁ entriesAt (left .entries) ≡ staying w clock skip plan
+  pub left-entries : entriesFrom w₁ entriesAt (left .entries) ≡ staying w clock plan
   left-entries = done .entries
 
   pub left-records : recordsFrom w₁ (recordsAt (limitsOf w)) (left .records)
-      ≡ closed (labelCountsBut apart (staying w clock skip plan)) (tableOf w .held)
+      ≡ closed (labelCountsBut apart (staying w clock plan)) (tableOf w .held)
   left-records =
-      let same : kept₁ ≡ labelCountsBut apart (staying w clock skip plan) = done .counts in
       done .records
-      ∙ ap (λ (kept : List ℕ). closed kept (records w)) same
-      ∙ records-left w b ok clock skip plan i len plans apart
+      ∙ records-left w b ok clock plan i len plans apart
 
   pub left-behind : drop (wordsNeeded (limitsOf w)) w₁ ≡ drop (wordsNeeded (limitsOf w)) w
   left-behind =

@@ -1,14 +1,5 @@
-pub mod PlanReads
-pub mod PlanLabels
-pub mod PlanSums
-pub mod PlanLive
-pub mod PlanSkips
-pub mod PlanTables
-pub mod Planned
-pub mod PlanSteps
-pub mod PlanOffers
 pub mod HeldBodies
-pub mod Removing
+pub mod PlannedRemoval
 pub mod Rooms
 pub mod Additions
 pub mod TooLong

@@ -21,8 +21,8 @@ use Rattle.cache_model.proofs.Plans.{bodies-planned}
 use Rattle.cache_model.proofs.Thinning.{thinned, hasId, firstId, none-either-way}
 use Rattle.pending_flows.specs.View.{cacheOf}
 use Rattle.table_view.proofs.Stored.{legal-limited}
-use Rattle.pending_offer.specs.declared.plan.OfferPlan.{OfferPlan}
-use Rattle.pending_offer.specs.Plan.{Plans}
+use Rattle.offer_plan.specs.declared.plan.OfferPlan.{OfferPlan}
+use Rattle.offer_plan.specs.Plan.{Plans}
 use Rattle.pending_offer.proofs.Settled.{outcome}
 
 none-both : (p q : Bool) → _≡_ {A = List Body} (cond p [] (cond q [] [])) []
@@ -63,7 +63,7 @@ module _ (w b : List ℕ) (ok : wellFormed w (length b) ≡ true) (i : ℕ) (x :
       offer-planned (limitsOf w) (expired (limitsOf w .ttl) (x .clock)) i x ts (within .differ) (within .filled)
       (omega (arith, words-say w (length b) ok .limits-legal .size-within))
 
-  module _ {skip : List ℕ} {plan : OfferPlan} (plans : Plans w b i (size x) (x .clock) skip plan) where
+  module _ {plan : OfferPlan} (plans : Plans w b i (size x) (x .clock) plan) where
     -- the plan's verdict, and what is left held by it
     verdict-is : outcome w b ok i x small .verdict ≡ cond (plan .full) (refused 20) accepted
     verdict-is = planned .0 ∙ plans .verdict x refl

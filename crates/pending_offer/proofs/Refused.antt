@@ -17,7 +17,6 @@ use Rattle.table.specs.WellFormed.{wellFormed}
 use Rattle.table.proofs.Words.{length-entries}
 use Rattle.table.proofs.Facts.{Placed, LegalRecord, LegalWords, words-say}
 use Rattle.table_entries.specs.Sums.{heldSum}
-use Rattle.table_entries.proofs.LabelSums.{zeros}
 use Rattle.cache_model.specs.Bodies.{Body, allBodies}
 use Rattle.cache_model.specs.Cache.{number}
 use Rattle.cache_model.specs.Offer.{refused, offered}
@@ -29,9 +28,9 @@ use Rattle.pending_calls.specs.declared.removal.Removed.{Removed}
 use Rattle.pending_calls.specs.Promises.{Does}
 use Rattle.pending_calls.specs.Removal.{Removes}
 use Rattle.pending_calls.proofs.Removed.{TiedRows}
-use Rattle.pending_offer.specs.declared.plan.OfferPlan.{OfferPlan}
+use Rattle.offer_plan.specs.declared.plan.OfferPlan.{OfferPlan}
+use Rattle.offer_plan.specs.Plan.{planTest, skipOf, Plans}
 use Rattle.pending_offer.specs.Promises.{bodyOf}
-use Rattle.pending_offer.specs.Plan.{planTest, Plans}
 use Rattle.pending_offer.specs.Settle.{settledFigures}
 use Rattle.pending_offer.proofs.HeldBodies.{held-most}
 use Rattle.pending_offer.proofs.Settled.{sum-small, outcome, drops-counted, bytes-counted}
@@ -44,15 +43,13 @@ use Rattle.pending_offer.proofs.Outcomes.{leaves, refused-verdict, refu
 -- removal leaves.
 pub record Refusing (w b : List ℕ) (l′ : PendingFlowsConfig) (i : ℕ) (body : List ℕ) (clock : ℕ) (plan : OfferPlan)
     (w₁ : List ℕ) (left : Removed) : Type 0 where
-  pub skip : List ℕ  -- how many bodies of each label the plan skips
-  pub kept : List ℕ  -- how many of each label the removal leaves
   pub ok : wellFormed w (length b) ≡ true
   pub limits : l′ ≡ limitsOf w
   pub small : length body ≤ limitsOf w .«max_entry_size_bytes»
-  pub plans : Plans w b i (length body) clock skip plan
+  pub plans : Plans w b i (length body) clock plan
   pub full : plan .full ≡ true
   pub removed : Removes (planTest (limitsOf w) clock plan) (recordsAt (limitsOf w)) (heldCount w + chanceCount w)
-      (entryCount w) 1024 skip zeros w w₁ kept left
+      (entryCount w) 1024 (skipOf w plan) w w₁ left
   pub long : length w₁ ≡ length w
 
 module _ {w b : List ℕ} {l′ : PendingFlowsConfig} {i : ℕ} {body : List ℕ} {clock : ℕ} {plan : OfferPlan}
@@ -86,12 +83,12 @@ module _ {w b : List ℕ} {l′ : PendingFlowsConfig} {i : ℕ} {body : List ℕ
         left-entries w b (known .ok) i clock (length body) 1024 (known .plans) (known .removed),
         left-records w b (known .ok) i clock (length body) 1024 (known .plans) (known .removed),
       )
-      (templates-left w b (known .ok) clock (known .skip) plan i (length body) (known .plans) 1024 f
+      (templates-left w b (known .ok) clock plan i (length body) (known .plans) 1024 f
       (all-both Legal _ (λ u. f (u .key) (bodiesAt b (u .label) es)
-      ≡ cond (eqb 1024 (u .label)) [] (bodiesAt b (u .label) (staying w clock (known .skip) plan)))
+      ≡ cond (eqb 1024 (u .label)) [] (bodiesAt b (u .label) (staying w clock plan)))
       (λ u h e. rw (ne-eqb 1024 (u .label) (λ d. omega (arith, h .label-small))) (sym e)) (tableOf w .held)
-      (held-legal w b (known .ok) clock (known .skip) plan)
-      (bodies-left w b (known .ok) clock (known .skip) plan i (length body) (known .plans) x refl))
+      (held-legal w b (known .ok) clock plan)
+      (bodies-left w b (known .ok) clock plan i (length body) (known .plans) x refl))
       ∙ sym (refused-held w b (known .ok) i x (known .small) (known .plans) (known .full)))
 
   pub refused-settles : (entriesAt + entryWords * left .entries ≤ length w₁)

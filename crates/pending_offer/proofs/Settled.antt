@@ -43,8 +43,8 @@ use Rattle.table_view.proofs.Stored.{Stored, tableWith, legal-limited, stored-v
 use Rattle.pending_calls.specs.Promises.{Does}
 use Rattle.pending_calls.proofs.Headers.{headed, headed-limits, headed-flag, headed-length, headed-behind}
 use Rattle.pending_calls.proofs.Removed.{TiedRows}
+use Rattle.offer_plan.proofs.Tables.{total-held}
 use Rattle.pending_offer.specs.Settle.{settledFigures}
-use Rattle.pending_offer.proofs.PlanTables.{total-held}
 
 -- all entries are held
 pub lens-held : {rs : List TemplateRecord} {es : List Entry} {is : List ℕ} → Tied rs es is →

@@ -1,4 +1,3 @@
 pub mod Promises
-pub mod Plan
 pub mod Room
 pub mod Settle

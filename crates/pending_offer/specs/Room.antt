@@ -3,7 +3,7 @@ use mathlib.Core.Path.{_≡_}
 use mathlib.Core.List.{List, [], _∷_, _++_}
 use mathlib.Core.Bool.{Bool, true, cond}
 use Prim.Native.Nat.{ℕ, _+_, _*_, _≤_, _<_}
-use lib.Dec.{leb, ltb}
+use lib.Dec.{leb}
 use lib.ListN.{length, take, drop}
 use Rattle.areas.specs.Overwrite.{putAt}
 use Rattle.config.specs.declared.PendingFlowsConfig.{PendingFlowsConfig}
@@ -15,7 +15,7 @@ use Rattle.table.specs.Table.{entriesFrom, recordsFrom, indexFrom}
 use Rattle.table.specs.WellFormed.{placesLegal, indexRises}
 use Rattle.table_entries.specs.Pack.{lastEnd, packedEntries, packedEnd, packedBytes}
 use Rattle.table_records.specs.Add.{inserted}
-use Rattle.table_records.specs.Choose.{freeLabel}
+use Rattle.table_records.specs.Choose.{FreeLabel}
 
 -- whether a body of this length fits behind the last one; else the bodies are moved together
 abbrev pub fitsBehind : ℕ → ℕ → List Entry → Bool
@@ -79,6 +79,13 @@ pub record AddsBody (l : PendingFlowsConfig) (k m : ℕ) (r : TemplateRecord) (b
       ≡ inserted (recordsFrom w (recordsAt l) k) (r .key) k (indexFrom w (recordsAt l) k)
   pub behind : drop (recordsAt l + recordWords * (k + 1)) w′ ≡ drop (recordsAt l + recordWords * (k + 1)) w
 
--- the label of the id's template, or, where that is none, the least one without bodies
-abbrev pub chosenLabel : ℕ → List ℕ → ℕ
-chosenLabel label kept = cond (ltb label 1024) label (freeLabel kept 0 1024)
+-- k records, fewer than there are labels, lie within the words
+pub record LabelRoom (l : PendingFlowsConfig) (k : ℕ) (w : List ℕ) : Type 0 where
+  pub few : k < 1024
+  pub bodies-few : maxBodies l ≤ 262144
+  pub within : recordsAt l + recordWords * k ≤ length w
+
+-- the label of the id's template, or, where that is none, one that none of these records has
+pub record ChoosesLabel (label : ℕ) (rs : List TemplateRecord) (r : ℕ) : Type 0 where
+  pub held : label < 1024 → r ≡ label
+  pub free : 1024 ≤ label → FreeLabel rs r

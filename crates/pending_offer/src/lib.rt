@@ -1,6 +1,6 @@
 // Offering a body to a pending flow cache (pending_flows.rs).
 mod offering;
-mod plan;
+mod removing;
 mod settling;
 mod storing;
 

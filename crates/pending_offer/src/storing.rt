@@ -4,10 +4,11 @@ ghost use mathlib.Core.Bool.{true};
 ghost use Prim.Native.Nat.{_+_, _*_, _≤_};
 ghost use lib.ListN.{length};
 ghost use Rattle.config.specs.Limits.{entryWords};
-ghost use Rattle.table.specs.Layout.{entriesAt};
-ghost use Rattle.table.specs.Table.{entriesFrom};
+ghost use Rattle.table.specs.Layout.{entriesAt, recordsAt};
+ghost use Rattle.table.specs.Table.{entriesFrom, recordsFrom};
 ghost use Rattle.table.specs.WellFormed.{placesLegal};
-ghost use Rattle.pending_offer.specs.Room.{MakesRoom, entryOf, StoresBody, RoomFor, AddsBody, chosenLabel};
+ghost use Rattle.pending_offer.specs.Room.{MakesRoom, entryOf, StoresBody, RoomFor, AddsBody};
+ghost use Rattle.pending_offer.specs.Room.{LabelRoom, ChoosesLabel};
 use areas::write_body;
 use config::ENTRY_WORDS;
 use config::HEADER_WORDS;
@@ -66,14 +67,15 @@ fn store_body(
     write_body(bytes, place, body);
 }
 
-// The label of the id's template, or, where that is none, the least one without bodies.
-pub fn choose_label(label: u64, kept: &[u32; LABELS]) -> u64
-    ensures { λ r. ⌜ r ≡ chosenLabel label (now (kept .entry)) ⌝ }
+// The label of the id's template, or, where that is none, one that no record has.
+pub fn choose_label(words: &[u64], limits: PendingFlowsConfig, records: usize, label: u64) -> u64
+    requires { ⌜ LabelRoom limits records (now words) ⌝ }
+    ensures { λ r. ⌜ ChoosesLabel label (recordsFrom (now (words .entry)) (recordsAt limits) records) r ⌝ }
 {
     if label < (LABELS as u64) {
         return label;
     }
-    free_label(kept)
+    free_label(words, records_at(limits), records)
 }
 
 // Puts a body behind the others, and its template's record behind the others, where a removal left room for both.

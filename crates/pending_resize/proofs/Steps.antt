@@ -24,16 +24,10 @@ use Rattle.table_records.specs.Choose.{skipping, skippingOver, evictionsOf}
 use Rattle.table_records.proofs.Skips.{length-skipping, length-skipping-over}
 use Rattle.pending_flows.proofs.Questions.{first-records}
 use Rattle.pending_calls.specs.declared.removal.Removed.{Removed}
-use Rattle.pending_calls.specs.Removal.{everything, Removes}
+use Rattle.pending_calls.specs.Removal.{everything}
 use Rattle.pending_resize.specs.Removing.{zeros, RemovesSkipped}
 use Rattle.pending_resize.specs.Cut.{smallEnough, cutSkips}
 use Rattle.pending_resize.specs.Fit.{overTotal, totalSkips, fittedEntries, fittedBytes, FitsPlaces}
-
--- the counts that a removal leaves are told by the entries
-pub skipped-removed : {q : StayTest} {p k m : ℕ} {skip w w′ kept′ : List ℕ} {r : Removed} →
-    Removes q p k m 1024 skip zeros w w′ kept′ r → RemovesSkipped q p k m skip w w′ r
-skipped-removed {q} {p} {k} {m} {skip} {w} {w′} {r = r} h =
-    subst (λ (c : List ℕ). Removes q p k m 1024 skip zeros w w′ c r) (h .counts) h
 
 -- the first of some records
 pub records-take : (w : List ℕ) (p i n : ℕ) → i ≤ n → recordsFrom w p i ≡ take i (recordsFrom w p n)

@@ -6,11 +6,11 @@ ghost use Rattle.config.specs.Limits.{recordWords, entryWords};
 ghost use Rattle.table.specs.Layout.{entriesAt};
 ghost use Rattle.table.specs.Table.{entriesFrom, recordsFrom};
 ghost use Rattle.pending_resize.specs.Cut.{smallEnough, cutSkips, Cuts};
-use super::removing::remove_skipped;
 use config::PendingFlowsConfig;
 use config::RECORD_WORDS;
 use config::Ttl;
 use pending_calls::Removed;
+use pending_calls::remove;
 use table::LABELS;
 use table_entries::StayTest;
 use table_entries::sums_by_label;
@@ -86,12 +86,13 @@ pub fn cut(
 {
     let mut skip = [0u32; LABELS];
     skip_cut(words, from, held, handed, entries, config, &mut skip);
-    remove_skipped(
+    remove(
         words,
         from,
         held + handed,
         entries,
         small_enough(config),
         &mut skip,
+        LABELS as u64,
     )
 }

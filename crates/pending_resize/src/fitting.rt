@@ -9,8 +9,8 @@ ghost use Rattle.table.specs.Table.{entriesFrom, recordsFrom};
 ghost use Rattle.table.specs.WellFormed.{placesLegal};
 ghost use Rattle.table_entries.specs.Sums.{heldSum};
 ghost use Rattle.pending_resize.specs.Fit.{totalSkips, FitsTotal, FitsPlaces};
-use super::removing::remove_skipped;
 use pending_calls::Removed;
+use pending_calls::remove;
 use pending_calls::stay_all;
 use table::LABELS;
 use table_entries::held_bytes;
@@ -57,7 +57,15 @@ pub fn fit_total(
 {
     let mut skip = [0u32; LABELS];
     skip_total(words, from, records, entries, room, &mut skip);
-    remove_skipped(words, from, records, entries, stay_all(), &mut skip)
+    remove(
+        words,
+        from,
+        records,
+        entries,
+        stay_all(),
+        &mut skip,
+        LABELS as u64,
+    )
 }
 
 // Moves the bodies together where they end past `room`; else no body moves.

@@ -10,7 +10,7 @@ use Rattle.table.specs.declared.TemplateRecord.{TemplateRecord}
 use Rattle.table.specs.Table.{recordAt, recordsFrom}
 use Rattle.table.proofs.Words.{records-first, records-none}
 use Rattle.table_records.specs.Choose.{setEach, evictionsOf, liveRecords, firstLive}
-use Rattle.table_records.specs.Choose.{freeLabel}
+use Rattle.table_records.specs.Choose.{leastFree}
 
 -- At each record's label is set what f says of it. `left` records are left, from word p on, within the words.
 pub record EachSet (f : TemplateRecord → ℕ) (w sums₀ sums : List ℕ) (from records p left : ℕ) : Type 0 where
@@ -155,27 +155,27 @@ module _ {w live : List ℕ} {from records p left : ℕ} (inv : LiveSought w liv
 -- the labels before `label` have bodies
 pub record LabelSought (kept : List ℕ) (labels label left : ℕ) : Type 0 where
   pub reached : label + left ≡ labels
-  pub same : freeLabel kept 0 labels ≡ freeLabel kept label left
+  pub same : leastFree kept 0 labels ≡ leastFree kept label left
 
 pub all-labels : (kept : List ℕ) (labels : ℕ) → LabelSought kept labels 0 labels
 all-labels kept labels = record { reached = omega arith; same = refl }
 
 module _ {kept : List ℕ} {labels label left : ℕ} (inv : LabelSought kept labels label left) where
-  pub no-free-label : left ≤ 0 → label ≡ freeLabel kept 0 labels
-  unfolding freeLabel
-  no-free-label h = let z : left ≡ 0 = omega arith in sym (inv .same ∙ ap (freeLabel kept label) z)
+  pub no-free-label : left ≤ 0 → label ≡ leastFree kept 0 labels
+  unfolding leastFree
+  no-free-label h = let z : left ≡ 0 = omega arith in sym (inv .same ∙ ap (leastFree kept label) z)
 
   module _ (n : ℕ) (more : 0 < left) (has : n ≡ getD kept label 0) where
     one-more : left ≡ suc (left - 1)
     one-more = omega arith
 
-    pub label-free : n ≡ 0 → label ≡ freeLabel kept 0 labels
-    unfolding freeLabel
-    label-free h = sym (inv .same ∙ ap (freeLabel kept label) one-more ∙ rw (← has, eq-eqb n 0 h))
+    pub label-free : n ≡ 0 → label ≡ leastFree kept 0 labels
+    unfolding leastFree
+    label-free h = sym (inv .same ∙ ap (leastFree kept label) one-more ∙ rw (← has, eq-eqb n 0 h))
 
     pub label-taken : (n ≡ 0 → ⊥) → LabelSought kept labels (label + 1) (left - 1)
-    unfolding freeLabel
+    unfolding leastFree
     label-taken h = record {
       reached = omega (arith, inv .reached);
-      same = inv .same ∙ ap (freeLabel kept label) one-more ∙ rw (← has, ne-eqb n 0 h);
+      same = inv .same ∙ ap (leastFree kept label) one-more ∙ rw (← has, ne-eqb n 0 h);
     }

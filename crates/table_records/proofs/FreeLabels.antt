@@ -1,4 +1,4 @@
--- The least label without bodies: there is one while the records are fewer than the labels. Assumes nothing.
+-- A label that no record has: there is one while the records are fewer than the labels. Assumes nothing.
 use mathlib.Core.Path.{_≡_, refl, sym, ap, _∙_}
 use mathlib.Core.Logic.{_≢_}
 use mathlib.Core.Bool.{Bool, true, false, _||_, cond, false≢true}
@@ -7,11 +7,13 @@ use Prim.Native.Nat.{ℕ, zero, suc, _+_, _≤_, _<_}
 use native.Mathlib.Omega.{arith}
 use native.Mathlib.Decide.{ℕ-discrete}
 use lib.Dec.{eqb}
-use lib.ListN.{length, getD}
+use lib.ListN.{length, getD, replicate, length-replicate, getD-replicate}
 use borrow.Author.Tests.{eqb-true, eqb-false}
 use Rattle.table.specs.declared.TemplateRecord.{TemplateRecord}
-use Rattle.table.specs.Table.{hasLabel}
-use Rattle.table_records.specs.Choose.{freeLabel}
+use Rattle.table.specs.Table.{recordsFrom, hasLabel}
+use Rattle.table.proofs.Words.{length-records}
+use Rattle.table_records.specs.Choose.{skipAll, skipping, leastFree, FreeLabel}
+use Rattle.table_records.proofs.Skips.{skipping-at}
 
 -- the records without the first of a label
 without : ℕ → List TemplateRecord → List TemplateRecord
@@ -54,8 +56,8 @@ labels-few (suc n) rs h =
 module _ (kept : List ℕ) (rs : List TemplateRecord) where
   seek-free : (k n : ℕ) → length rs < k + n → ((j : ℕ) → j < k → hasLabel j rs ≡ true) →
       ((j : ℕ) → j < k + n → 0 < getD kept j 0 → hasLabel j rs ≡ true) →
-      (freeLabel kept k n < k + n) × (getD kept (freeLabel kept k n) 0 ≡ 0)
-  unfolding freeLabel
+      (leastFree kept k n < k + n) × (getD kept (leastFree kept k n) 0 ≡ 0)
+  unfolding leastFree
   seek-free k zero few before known = absurd (omega (arith, labels-few k rs before))
   seek-free k (suc n) few before known = by-sum (eqb (getD kept k 0) 0) refl
       (λ taken. seek-free (k + 1) n (omega arith) (up-to taken) (λ j h. known j (omega arith)))
@@ -68,8 +70,8 @@ module _ (kept : List ℕ) (rs : List TemplateRecord) where
           by-place (no d) = before j (omega (arith, d))
 
       by-sum : (t : Bool) → eqb (getD kept k 0) 0 ≡ t → (hasLabel k rs ≡ true →
-          (freeLabel kept (k + 1) n < k + 1 + n) × (getD kept (freeLabel kept (k + 1) n) 0 ≡ 0)) →
-          (cond t k (freeLabel kept (k + 1) n) < k + suc n) × (getD kept (cond t k (freeLabel kept (k + 1) n)) 0 ≡ 0)
+          (leastFree kept (k + 1) n < k + 1 + n) × (getD kept (leastFree kept (k + 1) n) 0 ≡ 0)) →
+          (cond t k (leastFree kept (k + 1) n) < k + suc n) × (getD kept (cond t k (leastFree kept (k + 1) n)) 0 ≡ 0)
       by-sum true e f = (omega arith, eqb-true (getD kept k 0) 0 e)
       by-sum false e f =
           let d = eqb-false (getD kept k 0) 0 e in
@@ -77,8 +79,37 @@ module _ (kept : List ℕ) (rs : List TemplateRecord) where
           (omega (arith, rest .0), rest .1)
 
   -- fewer records than labels, and each label with bodies is a record's
-  pub free-label : length rs < 1024 → ((k : ℕ) → k < 1024 → 0 < getD kept k 0 → hasLabel k rs ≡ true) →
-      (freeLabel kept 0 1024 < 1024) × (getD kept (freeLabel kept 0 1024) 0 ≡ 0)
-  free-label few known =
+  least-free : length rs < 1024 → ((k : ℕ) → k < 1024 → 0 < getD kept k 0 → hasLabel k rs ≡ true) →
+      (leastFree kept 0 1024 < 1024) × (getD kept (leastFree kept 0 1024) 0 ≡ 0)
+  least-free few known =
       let found = seek-free 0 1024 (omega arith) (λ j h. absurd (omega arith)) (λ j h. known j (omega arith)) in
       (omega (arith, found .0), found .1)
+
+-- where each label of a record has some
+pub free-found : (w : List ℕ) (p n : ℕ) (used : List ℕ) (k : ℕ) → n < 1024 →
+    used ≡ skipping (replicate 1024 0) (recordsFrom w p n) → k ≡ leastFree used 0 1024 → FreeLabel (recordsFrom w p n) k
+free-found w p n used k few is least =
+    let found = least-free used rs (omega (arith, length-records w p n)) (λ j h some. has-some j h (hasLabel j rs) refl some) in
+    let below : k < 1024 = omega (arith, found .0) in
+    record { below = below; absent = has-none below (hasLabel k rs) refl (rw least (found .1)) }
+  where
+    rs : List TemplateRecord
+    rs = recordsFrom w p n
+
+    used-at : (j : ℕ) → j < 1024 → getD used j 0 ≡ cond (hasLabel j rs) skipAll 0
+    used-at j h =
+        rw is
+        (skipping-at j (replicate 1024 0) rs (omega (arith, length-replicate {A = ℕ} 1024 0))
+        ∙ rw (getD-replicate {A = ℕ} 1024 j 0 0 h))
+
+    has-some : (j : ℕ) → j < 1024 → (t : Bool) → hasLabel j rs ≡ t → 0 < getD used j 0 → t ≡ true
+    has-some j h true e some = refl
+    has-some j h false e some =
+        let z : getD used j 0 ≡ 0 = used-at j h ∙ rw e in
+        absurd (omega arith)
+
+    has-none : k < 1024 → (t : Bool) → hasLabel k rs ≡ t → getD used k 0 ≡ 0 → t ≡ false
+    has-none h false e z = refl
+    has-none h true e z =
+        let some : getD used k 0 ≡ skipAll = used-at k h ∙ rw e in
+        absurd (omega arith)

@@ -14,3 +14,6 @@ pub mod Skips
 pub mod FreeLabels
 pub mod Weights
 pub mod ClosedIndex
+pub mod Places
+pub mod MovesUp
+pub mod Taken

@@ -1,10 +1,12 @@
 -- What is chosen by looking at the records alone, with sums by label beside them. Nothing is written.
+use mathlib.Core.Path.{_≡_}
 use mathlib.Core.List.{List, [], _∷_}
-use mathlib.Core.Bool.{cond}
-use Prim.Native.Nat.{ℕ, zero, suc, _+_, _-_, min}
+use mathlib.Core.Bool.{false, cond}
+use Prim.Native.Nat.{ℕ, zero, suc, _+_, _-_, _<_}
 use lib.Dec.{eqb, ltb}
 use lib.ListN.{getD, set}
 use Rattle.table.specs.declared.TemplateRecord.{TemplateRecord}
+use Rattle.table.specs.Table.{hasLabel}
 
 -- more than any template has
 abbrev pub skipAll : ℕ
@@ -23,14 +25,6 @@ skipping skip rs = setEach (λ r. skipAll) skip rs
 abbrev pub skippingOver : ℕ → List ℕ → List ℕ → List TemplateRecord → List ℕ
 skippingOver cap counts skip rs = setEach (λ r. getD counts (r .label) 0 - cap) skip rs
 
--- a count, up to the largest 32-bit number
-abbrev pub cappedCount : ℕ → ℕ
-cappedCount n = min n 4294967295
-
--- what these records count
-abbrev pub recordCounts : List ℕ → List TemplateRecord → List ℕ
-recordCounts sums rs = setEach (λ r. cappedCount (r .count)) sums rs
-
 -- how many least recent templates go until the total is at most `room`, where `sizes` has the bytes of each label
 unfoldable pub evictionsOf : ℕ → List ℕ → ℕ → List TemplateRecord → ℕ
 evictionsOf room sizes total [] = 0
@@ -46,7 +40,12 @@ unfoldable pub firstLive : List ℕ → List TemplateRecord → ℕ
 firstLive live [] = 1024
 firstLive live (r ∷ rs) = cond (ltb 0 (getD live (r .label) 0)) (r .label) (firstLive live rs)
 
--- the least label, from k on, that has no bodies; n labels are looked at
-unfoldable pub freeLabel : List ℕ → ℕ → ℕ → ℕ
-freeLabel kept k zero = k
-freeLabel kept k (suc n) = cond (eqb (getD kept k 0) 0) k (freeLabel kept (k + 1) n)
+-- the least label, from k on, that has 0; n labels are looked at
+unfoldable pub leastFree : List ℕ → ℕ → ℕ → ℕ
+leastFree used k zero = k
+leastFree used k (suc n) = cond (eqb (getD used k 0) 0) k (leastFree used (k + 1) n)
+
+-- a label that none of these records has
+pub record FreeLabel (rs : List TemplateRecord) (k : ℕ) : Type 0 where
+  pub below : k < 1024
+  pub absent : hasLabel k rs ≡ false

@@ -1,4 +1,5 @@
 pub mod Close
 pub mod Add
 pub mod Choose
+pub mod Take
 pub mod Passes

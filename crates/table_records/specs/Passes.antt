@@ -1,5 +1,5 @@
--- What the passes of `close` and `add_record` do, each as its loop goes. They stand here because the contracts of the
--- passes cite them. A reader need not believe them: together they are `Closes` and `Adds`.
+-- What the passes of `close`, `take_off` and `add_record` do, each as its loop goes. They stand here because the
+-- contracts of the passes cite them. A reader need not believe them: together they are `Closes`, `TakesOff` and `Adds`.
 use mathlib.Core.Path.{_≡_}
 use mathlib.Core.List.{List, _∷_, _++_}
 use Prim.Native.Nat.{ℕ, _+_, _*_, _-_, _≤_}
@@ -24,6 +24,14 @@ pub record ClosesRecords (p k : ℕ) (kept w w′ ps : List ℕ) (r : ℕ) : Typ
 pub record ClosesIndex (p k : ℕ) (ps w w′ : List ℕ) : Type 0 where
   pub index : indexFrom w′ p (length (remapped ps (indexFrom w p k))) ≡ remapped ps (indexFrom w p k)
   pub same : (j : ℕ) → recordsFrom w′ p j ≡ recordsFrom w p j
+  pub head : take p w′ ≡ take p w
+  pub tail : drop (p + recordWords * k) w′ ≡ drop (p + recordWords * k) w
+
+-- of k records from word p on, those behind a place move up by one; index words do not change
+pub record MovesUp (p k at : ℕ) (w w′ : List ℕ) : Type 0 where
+  pub records : recordsFrom w′ p (k - 1)
+      ≡ recordsFrom w p at ++ recordsFrom w (p + recordWords * (at + 1)) (k - 1 - at)
+  pub same : (i : ℕ) → word w′ (p + recordWords * i + 3) ≡ word w (p + recordWords * i + 3)
   pub head : take p w′ ≡ take p w
   pub tail : drop (p + recordWords * k) w′ ≡ drop (p + recordWords * k) w
 

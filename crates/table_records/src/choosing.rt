@@ -1,11 +1,11 @@
 // What is chosen by looking at the records alone, with sums by label beside them.
 ghost use mathlib.Core.Path.{_≡_};
-ghost use Prim.Native.Nat.{_+_, _*_, _-_, _≤_};
+ghost use Prim.Native.Nat.{_+_, _*_, _-_, _≤_, _<_};
 ghost use lib.ListN.{length};
 ghost use Rattle.config.specs.Limits.{recordWords};
 ghost use Rattle.table.specs.Table.{recordsFrom};
-ghost use Rattle.table_records.specs.Choose.{skipping, skippingOver, cappedCount, recordCounts};
-ghost use Rattle.table_records.specs.Choose.{evictionsOf, liveRecords, firstLive, freeLabel};
+ghost use Rattle.table_records.specs.Choose.{skipping, skippingOver};
+ghost use Rattle.table_records.specs.Choose.{evictionsOf, liveRecords, firstLive, leastFree, FreeLabel};
 use super::sums::set_sum;
 use super::sums::sum_of;
 use config::RECORD_WORDS;
@@ -58,33 +58,6 @@ pub fn skip_over(
         let label = record_at(words, p).label;
         let over = beyond(sum_of(counts, label) as u64, cap as u64);
         set_sum(skip, label, over as u32);
-        left -= 1;
-        p += RECORD_WORDS;
-    }
-}
-
-// A record's count as a sum by label, which stops at the largest 32-bit number.
-fn capped_count(count: u64) -> u32
-    ensures { λ r. ⌜ r ≡ cappedCount count ⌝ }
-{
-    if 4294967295 < count {
-        return 4294967295;
-    }
-    count as u32
-}
-
-// Sets what each record counts at its label.
-pub fn counts_by_label(words: &[u64], from: usize, records: usize, sums: &mut [u32; LABELS])
-    requires { ⌜ from + recordWords * records ≤ length (now words) ⌝ }
-    ensures { λ _.
-        ⌜ now (sums .exit) ≡ recordCounts (now (sums .entry)) (recordsFrom (now (words .entry)) from records) ⌝ }
-{
-    let mut left = records;
-    let mut p = from;
-    while left > 0 {
-        let template = record_at(words, p);
-        let bodies = capped_count(template.count);
-        set_sum(sums, template.label, bodies);
         left -= 1;
         p += RECORD_WORDS;
     }
@@ -156,18 +129,28 @@ pub fn first_live(words: &[u64], from: usize, records: usize, live: &[u32; LABEL
     LABELS as u64
 }
 
-// The least label that has no bodies; where there is none, what is no label.
-pub fn free_label(kept: &[u32; LABELS]) -> u64
-    ensures { λ r. ⌜ r ≡ freeLabel (now (kept .entry)) 0 1024 ⌝ }
+// The least label that has 0; where there is none, what is no label.
+fn least_free(used: &[u32; LABELS]) -> u64
+    ensures { λ r. ⌜ r ≡ leastFree (now (used .entry)) 0 1024 ⌝ }
 {
     let mut label: u64 = 0;
     let mut left = LABELS;
     while left > 0 {
-        if sum_of(kept, label) == 0 {
+        if sum_of(used, label) == 0 {
             return label;
         }
         label += 1;
         left -= 1;
     }
     label
+}
+
+// A label that no record has.
+pub fn free_label(words: &[u64], from: usize, records: usize) -> u64
+    requires { ⌜ (from + recordWords * records ≤ length (now words)) × (records < 1024) ⌝ }
+    ensures { λ r. ⌜ FreeLabel (recordsFrom (now (words .entry)) from records) r ⌝ }
+{
+    let mut used = [0u32; LABELS];
+    skip_records(words, from, records, &mut used);
+    least_free(&used)
 }

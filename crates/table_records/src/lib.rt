@@ -3,9 +3,9 @@ mod adding;
 mod choosing;
 mod closing;
 mod sums;
+mod taking;
 
 pub use adding::add_record;
-pub use choosing::counts_by_label;
 pub use choosing::evictions_of;
 pub use choosing::first_live;
 pub use choosing::free_label;
@@ -15,3 +15,5 @@ pub use choosing::skip_records;
 pub use closing::close;
 pub use sums::set_sum;
 pub use sums::sum_of;
+pub use taking::place_of;
+pub use taking::take_off;

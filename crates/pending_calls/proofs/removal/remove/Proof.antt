@@ -1,4 +1,4 @@
-use Rattle.pending_calls.proofs.Removals.{removal-done}
+use Rattle.pending_calls.proofs.Removals.{removal-done, all-counted}
 use mathlib.Core.Path.{_∙_}
 use borrow.Author.Needs.{needs}
 use Rattle.pending_calls.proofs.removal.remove.Statement.{statement}
@@ -33,8 +33,9 @@ returns c =
     let summed : tie.After-sums-by-label = read .before .before in
     let all : tie.After-stay-all = summed .before .before in
     let swept : tie.After-sweep = all .before .before .before .before in
-    removal-done _ _ _ _ _ _ _ _ _ _ _ _ _ (swept .before .before .before .before .pre .0) (swept .sweep .ensures)
-    (all .stay-all .ensures) (summed .sums-by-label .ensures) (read .sum-of .ensures) (set .set-sum .ensures)
+    removal-done _ _ _ _ _ _ _ _ _ _ _ _ (swept .before .before .before .before .pre .0) (swept .sweep .ensures)
+    (all-counted _ _ (all .stay-all .ensures) (summed .sums-by-label .ensures)) (read .sum-of .ensures)
+    (set .set-sum .ensures)
     (closed .close .ensures) (closed .close .kept .0 ∙ swept .sweep .kept .0)
 
 pub remove-spec : {M : Type 1} → statement M

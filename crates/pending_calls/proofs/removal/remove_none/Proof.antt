@@ -1,6 +1,6 @@
 use borrow.Author.Needs.{needs}
 use Rattle.pending_flows.proofs.Questions.{bodies-few}
-use Rattle.pending_calls.proofs.NoneRemoved.{records-few, records-fit, records-inside, none-removed}
+use Rattle.pending_calls.proofs.NoneRemoved.{records-fit, records-inside, none-apart, one-apart}
 use Rattle.pending_calls.proofs.removal.remove_none.Statement.{statement}
 use Rattle.pending_calls.proofs.removal.remove_none.Tie as tie
 
@@ -10,23 +10,26 @@ records-at-requires c κs = search (bodies-few, needs)
 add-records : tie.Need-add-records
 add-records c = record { fits = search (records-fit, needs) }
 
-counts-by-label-requires : tie.Need-counts-by-label-requires
-counts-by-label-requires c κs = search (records-inside, needs)
-
-sum-of-requires : tie.Need-sum-of-requires
-sum-of-requires c κs = search needs
-
-set-sum-requires : tie.Need-set-sum-requires
-set-sum-requires c κs = search needs
-
-close-requires : tie.Need-close-requires
-close-requires c κs = search (records-few, records-inside, needs)
+place-of-requires : tie.Need-place-of-requires
+place-of-requires c κs = search (records-inside, needs)
 
 same-length : tie.Need-same-length
 same-length c = search needs
 
 returns : tie.Need-returns
-returns c = search (none-removed, needs)
+returns c = search (none-apart, needs)
+
+take-off-requires : tie.Need-take-off-requires
+take-off-requires c κs = search (records-inside, needs)
+
+sub-remain : tie.Need-sub-remain
+sub-remain c = search needs
+
+same-length-2 : tie.Need-same-length-2
+same-length-2 c = search needs
+
+returns-2 : tie.Need-returns-2
+returns-2 c = search (one-apart, needs)
 
 pub remove-none-spec : {M : Type 1} → statement M
 remove-none-spec =
@@ -34,9 +37,10 @@ remove-none-spec =
     (tie.spec
     records-at-requires
     add-records
-    counts-by-label-requires
-    sum-of-requires
-    set-sum-requires
-    close-requires
+    place-of-requires
     same-length
-    returns)
+    returns
+    take-off-requires
+    sub-remain
+    same-length-2
+    returns-2)

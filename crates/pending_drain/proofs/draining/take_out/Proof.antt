@@ -24,7 +24,7 @@ same-length c = search needs
 returns : tie.Need-returns
 returns c =
     let removed : tie.After-remove = c .before .before in
-    let skipped : tie.After-skip-records = removed .before .before .before .before in
+    let skipped : tie.After-skip-records = removed .before .before .before in
     let start : tie.Start = skipped .before .before .before .before in
     taken-out _ _ _ _ (start .args .figures) _ _ _ (skipped .skip-records .ensures) (removed .remove .ensures)
 

@@ -21,7 +21,7 @@ same-length c = search needs
 returns : tie.Need-returns
 returns c =
     let removed : tie.After-remove = c .before .before in
-    let all : tie.After-stay-all = removed .before .before .before in
+    let all : tie.After-stay-all = removed .before .before in
     let skipped : tie.After-set-sum = all .before .before in
     let start : tie.Start = skipped .before .before .before in
     taken-back (start .args .label) (start .args .less) _ (start .args .figures) _ _ _ (all .stay-all .ensures)

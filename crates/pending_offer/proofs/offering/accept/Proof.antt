@@ -1,5 +1,7 @@
-use mathlib.Core.Path.{refl, _∙_}
+use mathlib.Core.Path.{_∙_}
 use borrow.Author.Needs.{needs}
+use Rattle.pending_offer.specs.Promises.{bodyOf}
+use Rattle.pending_offer.proofs.Labels.{label-room}
 use Rattle.pending_offer.proofs.Accepted.{Accepting}
 use Rattle.pending_offer.proofs.Accepts.{accepted-room, accepted-fewer, records-fit, entries-fit}
 use Rattle.pending_offer.proofs.Accepts.{accepted-settles, accepted-total, accepted-does}
@@ -14,13 +16,13 @@ abbrev removed : tie.After-choose-label → tie.After-remove-planned
 removed c = c .before .before .before .before
 
 abbrev start : tie.After-choose-label → tie.Start
-start c = begins (removed c .before .before .before .before .before)
+start c = begins (removed c .before .before .before)
 
 abbrev chosen : tie.After-add-body → tie.After-choose-label
 chosen c = c .before .before .before
 
 abbrev held : tie.After-choose-label → tie.After-held-bodies
-held c = removed c .before .before .before .before .before
+held c = removed c .before .before .before
 
 -- what is known once the label is chosen
 known : (c : tie.After-choose-label) →
@@ -30,8 +32,6 @@ known : (c : tie.After-choose-label) →
 known c =
     let pre = start c .pre in
     record {
-      skip = _;
-      kept = _;
       ok = pre .0 .0;
       limits = pre .0 .1;
       id = pre .1 .1 .1 .1;
@@ -48,11 +48,16 @@ held-bodies-requires c κs = search needs
 
 remove-planned-requires : tie.Need-remove-planned-requires
 remove-planned-requires c κs =
-    let pre = begins (c .before .before .before .before) .pre in
-    (pre .0, ((pre .1 .0 .0, pre .1 .1 .0 .long), (refl, pre .1 .1 .0 .keeps-all)))
+    let pre = begins (c .before .before) .pre in
+    (pre .0, ((pre .1 .0 .0, pre .1 .1 .0 .few), pre .1 .1 .0 .keeps-all))
 
 choose-label-requires : tie.Need-choose-label-requires
-choose-label-requires c κs = search needs
+choose-label-requires c κs =
+    let left : tie.After-remove-planned = c .before .before .before in
+    let s : tie.Start = begins (left .before .before .before) in
+    label-room (s .args .words .now) (s .args .bytes .now) (s .pre .0 .0) (s .args .id)
+    (bodyOf (s .args .body .now) (s .args .clock)) (s .pre .1 .0 .1) (s .pre .1 .1 .0) (s .pre .1 .1 .1 .0)
+    (left .remove-planned .ensures) (s .pre .0 .1) (left .remove-planned .kept .0)
 
 add-body-requires : tie.Need-add-body-requires
 add-body-requires c κs = accepted-room (known (c .before .before))

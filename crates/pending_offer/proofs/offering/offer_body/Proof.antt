@@ -6,7 +6,7 @@ use Rattle.pending_offer.proofs.offering.offer_body.Tie as tie
 
 -- where the figures and the limits are read, and where the function begins
 abbrev figured : tie.After-plan-offer → tie.After-figures-at
-figured c = c .before .before .before .before
+figured c = c .before .before .before
 
 abbrev limited : tie.After-plan-offer → tie.After-limits-at
 limited c = figured c .before .before
@@ -25,12 +25,12 @@ plan-offer-requires c κs = search (size-within, needs)
 
 turn-down-requires : tie.Need-turn-down-requires
 turn-down-requires c κs =
-    let plan : tie.After-plan-offer = c .before .before .before .before in
+    let plan : tie.After-plan-offer = c .before .before .before in
     let pre = start plan .pre in (
       (pre .0 .0, limited plan .limits-at .ensures),
       (
         (figured plan .figures-at .ensures, pre .1),
-        (plan .plan-offer .ensures, c .before .before .before .if1 .taken),
+        (plan .plan-offer .ensures, c .before .before .if1 .taken),
       ),
     )
 
@@ -45,12 +45,12 @@ returns c = search (full-offer, needs)
 
 accept-requires : tie.Need-accept-requires
 accept-requires c κs =
-    let plan : tie.After-plan-offer = c .before .before .before .before in
+    let plan : tie.After-plan-offer = c .before .before .before in
     let pre = start plan .pre in (
       (pre .0 .0, limited plan .limits-at .ensures),
       (
         (figured plan .figures-at .ensures, pre .1),
-        (plan .plan-offer .ensures, (c .before .before .before .if1 .left, pre .0 .1)),
+        (plan .plan-offer .ensures, (c .before .before .if1 .left, pre .0 .1)),
       ),
     )
 

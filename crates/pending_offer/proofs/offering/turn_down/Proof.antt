@@ -1,4 +1,3 @@
-use mathlib.Core.Path.{refl}
 use borrow.Author.Needs.{needs}
 use Rattle.pending_offer.proofs.Refused.{Refusing, refused-settles, refused-fewer, refused-total, drops-fit}
 use Rattle.pending_offer.proofs.Refused.{refused-does}
@@ -7,7 +6,7 @@ use Rattle.pending_offer.proofs.offering.turn_down.Tie as tie
 
 -- where the bodies are counted, and where the function begins
 abbrev held : tie.After-remove-planned → tie.After-held-bodies
-held c = c .before .before .before .before
+held c = c .before .before
 
 abbrev begins : tie.After-held-bodies → tie.Start
 begins c = c .before .before .before .before .before
@@ -19,8 +18,6 @@ known : (c : tie.After-remove-planned) →
 known c =
     let pre = begins (held c) .pre in
     record {
-      skip = _;
-      kept = _;
       ok = pre .0 .0;
       limits = pre .0 .1;
       small = pre .1 .0 .1;
@@ -35,8 +32,8 @@ held-bodies-requires c κs = search needs
 
 remove-planned-requires : tie.Need-remove-planned-requires
 remove-planned-requires c κs =
-    let pre = begins (c .before .before .before) .pre in
-    (pre .0, ((pre .1 .0 .0, pre .1 .1 .0 .long), (refl, pre .1 .1 .0 .keeps-all)))
+    let pre = begins (c .before) .pre in
+    (pre .0, ((pre .1 .0 .0, pre .1 .1 .0 .few), pre .1 .1 .0 .keeps-all))
 
 sub-drops : tie.Need-sub-drops
 sub-drops c =

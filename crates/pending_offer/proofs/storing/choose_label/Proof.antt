@@ -6,6 +6,9 @@ use Rattle.pending_offer.proofs.storing.choose_label.Tie as tie
 returns : tie.Need-returns
 returns c = search (label-kept, needs)
 
+records-at-requires : tie.Need-records-at-requires
+records-at-requires c κs = search needs
+
 free-label-requires : tie.Need-free-label-requires
 free-label-requires c κs = search needs
 
@@ -13,4 +16,4 @@ returns-2 : tie.Need-returns-2
 returns-2 c = search (label-free, needs)
 
 pub choose-label-spec : {M : Type 1} → statement M
-choose-label-spec = tie.close (tie.spec returns free-label-requires returns-2)
+choose-label-spec = tie.close (tie.spec returns records-at-requires free-label-requires returns-2)

@@ -6,14 +6,14 @@ use Rattle.pending_resize.proofs.cutting.cut.Tie as tie
 skip-cut-requires : tie.Need-skip-cut-requires
 skip-cut-requires c κs = search needs
 
-add-remove-skipped : tie.Need-add-remove-skipped
-add-remove-skipped c = search needs
+add-remove : tie.Need-add-remove
+add-remove c = search needs
 
 small-enough-requires : tie.Need-small-enough-requires
 small-enough-requires c κs = search needs
 
-remove-skipped-requires : tie.Need-remove-skipped-requires
-remove-skipped-requires c κs = search (cut-skips-long, needs)
+remove-requires : tie.Need-remove-requires
+remove-requires c κs = search (cut-skips-long, needs)
 
 same-length : tie.Need-same-length
 same-length c = search needs
@@ -26,8 +26,8 @@ cut-spec =
     tie.close
     (tie.spec
     skip-cut-requires
-    add-remove-skipped
+    add-remove
     small-enough-requires
-    remove-skipped-requires
+    remove-requires
     same-length
     returns)

@@ -9,8 +9,8 @@ skip-total-requires c κs = search needs
 stay-all-requires : tie.Need-stay-all-requires
 stay-all-requires c κs = search needs
 
-remove-skipped-requires : tie.Need-remove-skipped-requires
-remove-skipped-requires c κs = search (total-skips-long, needs)
+remove-requires : tie.Need-remove-requires
+remove-requires c κs = search (total-skips-long, needs)
 
 same-length : tie.Need-same-length
 same-length c = search needs
@@ -21,4 +21,4 @@ returns c = search (removed-as, needs)
 pub fit-total-spec : {M : Type 1} → statement M
 fit-total-spec =
     tie.close
-    (tie.spec skip-total-requires stay-all-requires remove-skipped-requires same-length returns)
+    (tie.spec skip-total-requires stay-all-requires remove-requires same-length returns)

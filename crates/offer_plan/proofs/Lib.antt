@@ -1,0 +1,9 @@
+pub mod RecordReads
+pub mod Labels
+pub mod Sums
+pub mod Live
+pub mod Skips
+pub mod Tables
+pub mod Planned
+pub mod Steps
+pub mod Offers

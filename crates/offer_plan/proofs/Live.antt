@@ -1,0 +1,118 @@
+-- The live bodies of an id, by its record; and that nothing goes where none of them is expired. Assumes nothing.
+use mathlib.Core.Path.{_≡_, refl, sym, ap, _∙_}
+use mathlib.Core.Bool.{Bool, true, false, _&&_, cond, false≢true}
+use mathlib.Core.List.{List, [], _∷_}
+use Prim.Native.Nat.{ℕ, _≤_, _<_}
+use native.Mathlib.Omega.{arith}
+use lib.Dec.{eqb, leb, ltb}
+use lib.ListN.{getD}
+use borrow.Author.Tests.{ne-eqb}
+use Rattle.config.specs.declared.Ttl.{Ttl}
+use Rattle.config.specs.declared.Ttl.the-variants.{None}
+use Rattle.config.specs.Age.{expiredAt}
+use Rattle.config.proofs.Lists.{All, all-map}
+use Rattle.table.specs.declared.Entry.{Entry}
+use Rattle.table.specs.declared.TemplateRecord.{TemplateRecord}
+use Rattle.table.specs.declared.RecordFound.{RecordFound}
+use Rattle.table.specs.declared.RecordFound.the-variants as Record
+use Rattle.table.specs.Table.{tally}
+use Rattle.table.specs.Reads.{recordOf, labelIn, countIn, labelOf, labelOrNone, countOf, liveCount}
+use Rattle.table.proofs.Lookups.{label-told, no-label-told, count-told, no-count-told}
+use Rattle.table_view.proofs.AllStay.{all-live, none-expired}
+use Rattle.offer_plan.specs.declared.plan.Decision.{Decision}
+use Rattle.offer_plan.specs.Plan.{liveSums, liveIn, FoundHas, CountRight, LiveRead}
+use Rattle.offer_plan.specs.Plan.{liveAt, othersFill, NothingGoes}
+
+-- ---- by what was found
+
+module _ (x : RecordFound) where
+  pub found-fills : (r : TemplateRecord) (n most : ℕ) → x ≡ Record.At r → ltb most n ≡ othersFill (labelIn x) n most
+  found-fills r n most f = rw f
+
+  pub none-fills : (n most : ℕ) → x ≡ Record.Nothing → leb most n ≡ othersFill (labelIn x) n most
+  none-fills n most f = rw f
+
+  module _ (ttl : Ttl) (clock : ℕ) (es : List Entry) where
+    pub none-live : x ≡ Record.Nothing → 0 ≡ liveIn ttl clock es x
+    none-live f = rw f
+
+    pub counted-live : (r : TemplateRecord) → x ≡ Record.At r → CountRight es x → ttl ≡ None →
+        r .count ≡ liveIn ttl clock es x
+    counted-live r f right e =
+        let here : r .count ≡ tally (r .label) es = rw f at right in
+        rw (f, e) (here ∙ sym (all-live clock (r .label) es))
+
+    pub read-live : (r : TemplateRecord) (n : ℕ) → x ≡ Record.At r → n ≡ liveCount ttl clock (r .label) es →
+        n ≡ liveIn ttl clock es x
+    read-live r n f e = rw f e
+
+-- what holds of each record holds of the one that is found
+record-has : (P : TemplateRecord → Type 0) (id : ℕ) (rs : List TemplateRecord) → All P rs → FoundHas P (recordOf id rs)
+unfolding recordOf
+record-has P id [] a = tt
+record-has P id (r ∷ rs) a = by-key (eqb id (r .key)) (record-has P id rs (a .1))
+  where
+    by-key : (t : Bool) → FoundHas P (recordOf id rs) → FoundHas P (cond t (Record.At r) (recordOf id rs))
+    by-key true ih = a .0
+    by-key false ih = ih
+
+module _ {ttl : Ttl} {clock : ℕ} {rs : List TemplateRecord} {es : List Entry} (reads : LiveRead ttl clock rs es)
+    (id : ℕ) where
+  abbrev live : List ℕ
+  live = liveSums ttl clock es
+
+  module _ {x : RecordFound} (found : x ≡ recordOf id rs) where
+    has : (P : TemplateRecord → Type 0) → All P rs → FoundHas P x
+    has P a = rw found (record-has P id rs a)
+
+    pub count-right : CountRight es x
+    count-right = has (λ r. r .count ≡ tally (r .label) es) (reads .counts)
+
+    pub label-is : labelIn x ≡ labelOf id rs
+    label-is = by-found x found
+      where
+        by-found : (y : RecordFound) → y ≡ recordOf id rs → labelIn y ≡ labelOf id rs
+        by-found (Record.At r) f = label-told id rs f refl
+        by-found Record.Nothing f = no-label-told id rs f refl
+
+    pub count-is : countIn x ≡ countOf id rs
+    count-is = by-found x found
+      where
+        by-found : (y : RecordFound) → y ≡ recordOf id rs → countIn y ≡ countOf id rs
+        by-found (Record.At r) f = count-told id rs f refl
+        by-found Record.Nothing f = no-count-told id rs f refl
+
+    pub live-is : liveIn ttl clock es x ≡ liveAt live (labelOf id rs)
+    live-is =
+        by-found x (has (λ r. liveCount ttl clock (r .label) es ≡ getD live (r .label) 0) (reads .live))
+        ∙ ap (liveAt live) label-is
+      where
+        by-found : (y : RecordFound) →
+            FoundHas (λ r. liveCount ttl clock (r .label) es ≡ getD live (r .label) 0) y →
+            liveIn ttl clock es y ≡ liveAt live (labelIn y)
+        by-found (Record.At r) h = h
+        by-found Record.Nothing h = refl
+
+  -- where the id has as many live bodies as its record counts, no entry of its label is expired
+  pub label-fresh : All (λ e. e .label < 1024) es → liveAt live (labelOf id rs) ≡ countOf id rs →
+      All (λ e. eqb (labelOrNone (labelOf id rs)) (e .label) && expiredAt ttl clock (e .clock) ≡ false) es
+  label-fresh small all =
+      rw (← label-is refl)
+      (by-found (recordOf id rs) (count-right refl) (live-is refl ∙ all ∙ sym (count-is refl)))
+    where
+      by-found : (y : RecordFound) → CountRight es y → liveIn ttl clock es y ≡ countIn y →
+          All (λ e. eqb (labelOrNone (labelIn y)) (e .label) && expiredAt ttl clock (e .clock) ≡ false) es
+      by-found (Record.At r) right h = none-expired ttl clock (r .label) es (h ∙ right)
+      by-found Record.Nothing right h =
+          all-map (λ e. e .label < 1024) (λ e. eqb 1024 (e .label) && expiredAt ttl clock (e .clock) ≡ false)
+          (λ e s. rw (ne-eqb 1024 (e .label) (λ q. omega arith))) es small
+
+-- ---- whether nothing goes
+
+module _ (evicted chance : ℕ) (d : Decision) where
+  pub not-certain : (false ≡ true → NothingGoes evicted chance d)
+  not-certain e = absurd (false≢true e)
+
+  pub certain : evicted ≤ 0 → chance ≤ 0 → d .all ≡ false → (d .live ≡ true → NothingGoes evicted chance d)
+  certain e c a l =
+      record { evicts-none = omega arith; hands-none = omega arith; one-id = a; none-expired = l }

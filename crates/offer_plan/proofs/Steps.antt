@@ -1,0 +1,135 @@
+-- The steps by which a plan is made, from what their callees ensure. Assumes nothing.
+use mathlib.Core.Path.{_≡_, refl, sym, ap, _∙_}
+use mathlib.Core.Bool.{Bool, true, false}
+use mathlib.Core.List.{List}
+use Prim.Native.Nat.{ℕ, _+_, _*_, _-_, _≤_, _<_}
+use native.Mathlib.Omega.{arith}
+use lib.Dec.{eqb, leb, ltb}
+use lib.ListN.{length}
+use borrow.Author.Tests.{eqb-true, lt-ltb, le-ltb, lt-leb, le-leb}
+use Rattle.config.specs.declared.Ttl.the-variants.{None}
+use Rattle.config.specs.declared.PendingFlowsConfig.{PendingFlowsConfig}
+use Rattle.config.specs.Limits.{recordWords, entryWords, maxBodies}
+use Rattle.table.specs.declared.Entry.{Entry}
+use Rattle.table.specs.declared.TemplateRecord.{TemplateRecord}
+use Rattle.table.specs.declared.RecordFound.{RecordFound}
+use Rattle.table.specs.declared.LabelFound.{LabelFound}
+use Rattle.table.specs.Layout.{limitsOf, entriesAt, recordsAt}
+use Rattle.table.specs.Table.{tableOf, entriesFrom, recordsFrom}
+use Rattle.table.specs.WellFormed.{wellFormed}
+use Rattle.table.specs.Reads.{recordOf, labelIn, countIn, labelOf, countOf}
+use Rattle.table.proofs.Words.{length-records}
+use Rattle.table_entries.specs.declared.StayTest.{StayTest}
+use Rattle.table_entries.specs.Sums.{summed}
+use Rattle.table_entries.proofs.LabelSums.{zeros}
+use Rattle.table_records.specs.Choose.{evictionsOf, liveRecords, firstLive}
+use Rattle.cache_model.specs.Removal.{evictions}
+use Rattle.pending_flows.specs.declared.header.HeaderFigures.{HeaderFigures}
+use Rattle.pending_flows.specs.Header.{figuresAt}
+use Rattle.pending_flows.specs.View.{cacheOf}
+use Rattle.pending_flows.proofs.Questions as Questions
+use Rattle.offer_plan.specs.Plan.{liveTest, liveSums, liveIn, LiveRead}
+use Rattle.offer_plan.specs.Plan.{liveAt, othersFill, firstEvicted, Decides}
+use Rattle.offer_plan.proofs.RecordReads.{evictions-read, none-evicted}
+use Rattle.offer_plan.proofs.Live.{label-is, count-is, live-is}
+use Rattle.offer_plan.proofs.Tables.{held-sized, total-held, held-are}
+
+-- ---- the least recent live template
+
+module _ (live : List ℕ) (rs : List TemplateRecord) (most n : ℕ) (counted : n ≡ liveRecords live rs) where
+  pub first-stays : n < most → 1024 ≡ firstEvicted most live rs
+  first-stays h = rw (lt-leb most (liveRecords live rs) (omega arith))
+
+  pub first-goes : (k : ℕ) → most ≤ n → k ≡ firstLive live rs → k ≡ firstEvicted most live rs
+  first-goes k h first = rw (le-leb most (liveRecords live rs) (omega arith)) first
+
+-- with the live bodies of each label summed
+pub oldest-found : (l : PendingFlowsConfig) (clock : ℕ) (es : List Entry) (rs : List TemplateRecord) (sums : List ℕ)
+    (k : ℕ) (q : StayTest) → q ≡ liveTest (l .ttl) clock → sums ≡ summed q false zeros es →
+    k ≡ firstEvicted (l .«max_pending_flows») sums rs →
+    k ≡ firstEvicted (l .«max_pending_flows») (liveSums (l .ttl) clock es) rs
+oldest-found l clock es rs sums k q tests counted first =
+    let is : sums ≡ liveSums (l .ttl) clock es = counted ∙ rw tests in
+    rw is at first
+
+-- ---- the decision: h live bodies are found, and the record counts c
+
+module _ (l : PendingFlowsConfig) (id clock : ℕ) (w : List ℕ) (es : List Entry) (p n : ℕ)
+    (x : RecordFound) (h c : ℕ) (reads : LiveRead (l .ttl) clock (recordsFrom w p n) es)
+    (found : x ≡ recordOf id (recordsFrom w p n)) (read : h ≡ liveIn (l .ttl) clock es x) (counted : c ≡ countIn x)
+  where
+    abbrev rs : List TemplateRecord
+    rs = recordsFrom w p n
+
+    abbrev live : List ℕ
+    live = liveSums (l .ttl) clock es
+
+    here : liveAt live (labelOf id rs) ≡ h
+    here = sym (read ∙ live-is reads id found)
+
+    fresh : eqb h c ≡ true → liveAt live (labelOf id rs) ≡ countOf id rs
+    fresh e = here ∙ eqb-true h c e ∙ counted ∙ count-is reads id found
+
+    pub held-decided : 0 < h →
+        Decides l id live rs
+        (record { full = leb (l .«max_entries_per_template») h; all = false; live = eqb h c; first = 1024 })
+    held-decided some =
+        let tested : ltb 0 h ≡ true = lt-ltb 0 h some in
+        record { full = rw (here, tested); all = rw (here, tested); first = refl; none-expired = fresh }
+
+    module _ (none : h ≤ 0) (t : Bool) (tested : t ≡ othersFill (labelIn x) n (l .«max_pending_flows»)) where
+      no-bodies : ltb 0 h ≡ false
+      no-bodies = le-ltb 0 h none
+
+      filled : othersFill (labelOf id rs) (length rs) (l .«max_pending_flows») ≡ t
+      filled = rw (length-records w p n, ← label-is reads id found) (sym tested)
+
+      pub new-decided : t ≡ false →
+          Decides l id live rs (record { full = false; all = false; live = eqb h c; first = 1024 })
+      new-decided e = record {
+        full = rw (here, no-bodies);
+        all = rw (here, no-bodies, filled, e);
+        first = refl;
+        none-expired = fresh;
+      }
+
+      pub new-full-decided : (k : ℕ) → t ≡ true → k ≡ firstEvicted (l .«max_pending_flows») live rs →
+          Decides l id live rs (record { full = false; all = true; live = eqb h c; first = k })
+      new-full-decided k e oldest = record {
+        full = rw (here, no-bodies);
+        all = rw (here, no-bodies, filled, e);
+        first = oldest;
+        none-expired = fresh;
+      }
+
+-- ---- the evictions, with the limits l and the figures f that were read
+
+module _ (w b : List ℕ) (ok : wellFormed w (length b) ≡ true) (l : PendingFlowsConfig) (limits : l ≡ limitsOf w)
+    (f : HeaderFigures) (figures : f ≡ figuresAt w) where
+  pub entries-within : entriesAt + entryWords * f .entries ≤ length w
+  entries-within = rw figures (Questions.entries-within w (length b) ok)
+
+  pub bodies-few : maxBodies l ≤ 262144
+  bodies-few = Questions.bodies-few w (length b) ok l limits
+
+  pub records-within : (p : ℕ) → p ≡ recordsAt l → p + recordWords * f .templates ≤ length w
+  records-within p e = rw figures (Questions.records-within w (length b) ok l p limits e)
+
+  module _ (len : ℕ) (fits : len ≤ l .«max_total_bytes») where
+    pub room-already : f .total ≤ l .«max_total_bytes» - len →
+        0 ≡ evictions (l .«max_total_bytes») len (cacheOf (tableOf w) b .held)
+    room-already room =
+        none-evicted b (tableOf w .entries) (l .«max_total_bytes») len (tableOf w .held) fits
+        (omega (arith, total-held w b ok, ap (λ (g : HeaderFigures). g .total) figures))
+
+    pub room-made : (p n : ℕ) (q : StayTest) (sizes : List ℕ) → q ≡ liveTest None 0 →
+        sizes ≡ summed q true zeros (entriesFrom w entriesAt (f .entries)) → p ≡ recordsAt l →
+        n ≡ evictionsOf (l .«max_total_bytes» - len) sizes (f .total) (recordsFrom w p (f .templates)) →
+        n ≡ evictions (l .«max_total_bytes») len (cacheOf (tableOf w) b .held)
+    room-made p n q sizes tests counted from evicted =
+        let sized : sizes ≡ summed (liveTest None 0) true zeros (tableOf w .entries) =
+        counted ∙ rw (tests, figures) in
+        let start : p ≡ recordsAt (limitsOf w) = from ∙ ap recordsAt limits in
+        evicted ∙ rw (figures, start, held-are w b ok, sized)
+        (evictions-read b (tableOf w .entries) (l .«max_total_bytes») len _ _ (tableOf w .held) fits
+        (held-sized w b ok 0) (total-held w b ok))

@@ -1,0 +1,6 @@
+// What an offer to a pending flow cache decides before anything is written (pending_flows.rs).
+mod plan;
+
+pub use plan::OfferPlan;
+pub use plan::plan_offer;
+pub use plan::skip_planned;

@@ -1,0 +1,290 @@
+// What an offer decides before anything is written: steps 2 to 5.
+ghost use mathlib.Core.Path.{_≡_};
+ghost use mathlib.Core.Bool.{true};
+ghost use Prim.Native.Nat.{_+_, _*_, _≤_};
+ghost use lib.ListN.{length, replicate};
+ghost use Rattle.config.specs.Limits.{recordWords, entryWords};
+ghost use Rattle.table.specs.Layout.{limitsOf, heldCount, entriesAt};
+ghost use Rattle.table.specs.Table.{tableOf, entriesFrom, recordsFrom};
+ghost use Rattle.table.specs.Reads.{labelIn};
+ghost use Rattle.table.specs.WellFormed.{wellFormed};
+ghost use Rattle.cache_model.specs.Removal.{evictions};
+ghost use Rattle.pending_flows.specs.Header.{figuresAt};
+ghost use Rattle.pending_flows.specs.View.{cacheOf};
+ghost use Rattle.offer_plan.specs.Plan.{liveTest, liveSums, liveIn, CountRight};
+ghost use Rattle.offer_plan.specs.Plan.{LiveRead, othersFill, firstEvicted, Decides, NothingGoes, skipOf, Plans};
+use config::PendingFlowsConfig;
+use config::RECORD_WORDS;
+use config::Ttl;
+use pending_flows::HeaderFigures;
+use table::LABELS;
+use table::RecordFound;
+use table::count_in;
+use table::label_for;
+use table::live_count;
+use table::record_of;
+use table::records_at;
+use table_entries::StayTest;
+use table_entries::sums_by_label;
+use table_records::evictions_of;
+use table_records::first_live;
+use table_records::live_records;
+use table_records::set_sum;
+use table_records::skip_records;
+
+// More than any template has.
+const SKIP_ALL: u32 = 262144;
+
+// What an offer decides: whether the template is full (20), the id's label (1,024 where the id is not held), whether
+// expired bodies of all ids go or only the id's, whether it is certain that nothing goes, how many least recent
+// templates go for their bytes, and the label of the one that goes for room (1,024 where none does).
+pub struct OfferPlan {
+    pub full: bool,
+    pub label: u64,
+    pub all: bool,
+    pub none: bool,
+    pub evicted: usize,
+    pub first: u64,
+}
+
+// What is decided by the templates that step 2 leaves; live: none of the id's bodies is expired; first: the label of
+// the template that goes for room.
+struct Decision {
+    full: bool,
+    all: bool,
+    live: bool,
+    first: u64,
+}
+
+// The test by which bodies that are not expired stay.
+fn live_test(ttl: Ttl, clock: u64) -> StayTest
+    ensures { λ r. ⌜ r ≡ liveTest ttl clock ⌝ }
+{
+    StayTest {
+        ttl,
+        clock,
+        all: true,
+        label: LABELS as u64,
+        max_size: 18446744073709551615,
+    }
+}
+
+// How many live bodies the record that was found has. With no time to live none is expired, and its count says how many.
+fn live_in(words: &[u64], entries: usize, ttl: Ttl, clock: u64, found: RecordFound) -> usize
+    requires { ⌜ entriesAt + entryWords * entries ≤ length (now words) ⌝ }
+    requires { ⌜ CountRight (entriesFrom (now words) entriesAt entries) found ⌝ }
+    ensures { λ r. ⌜ r ≡ liveIn ttl clock (entriesFrom (now (words .entry)) entriesAt entries) found ⌝ }
+{
+    let RecordFound::At(template) = found else {
+        return 0;
+    };
+    let Ttl::After(_) = ttl else {
+        return template.count as usize;
+    };
+    live_count(words, entries, template.label, ttl, clock)
+}
+
+// Whether the records but the one that was found are as many as there may be.
+fn others_fill(found: RecordFound, records: usize, most: usize) -> bool
+    ensures { λ r. ⌜ r ≡ othersFill (labelIn found) records most ⌝ }
+{
+    match found {
+        RecordFound::At(_) => most < records,
+        RecordFound::Nothing => most <= records,
+    }
+}
+
+// Step 2: how many least recent templates go until a body of this length fits.
+fn evictions_for(
+    words: &[u64],
+    bytes: &[u8],
+    limits: PendingFlowsConfig,
+    figures: HeaderFigures,
+    len: usize,
+) -> usize
+    requires { ⌜ (wellFormed (now words) (length (now bytes)) ≡ true) × (limits ≡ limitsOf (now words)) ⌝ }
+    requires { ⌜ (figures ≡ figuresAt (now words)) × (len ≤ limits .«max_total_bytes») ⌝ }
+    ensures { λ r.
+        ⌜ r ≡ evictions (limits .«max_total_bytes») len (cacheOf (tableOf (now (words .entry))) (now (bytes .entry))
+        .held) ⌝ }
+{
+    let room = (limits.max_total_bytes - len) as u64;
+    if figures.total <= room {
+        return 0;
+    }
+    // expired bodies count: they go after this step, and with no time to live none is expired
+    let ttl = Ttl::None;
+    let mut sizes = [0u32; LABELS];
+    sums_by_label(
+        words,
+        figures.entries as usize,
+        live_test(ttl, 0),
+        true,
+        &mut sizes,
+    );
+    evictions_of(
+        words,
+        records_at(limits),
+        figures.templates as usize,
+        room,
+        figures.total,
+        &sizes,
+    )
+}
+
+// The label of the least recent template with live bodies, where those templates are as many as there may be; else
+// what is no label.
+fn first_evicted(
+    words: &[u64],
+    from: usize,
+    records: usize,
+    most: usize,
+    live: &[u32; LABELS],
+) -> u64
+    requires { ⌜ from + recordWords * records ≤ length (now words) ⌝ }
+    ensures { λ r.
+        ⌜ r ≡ firstEvicted most (now (live .entry)) (recordsFrom (now (words .entry)) from records) ⌝ }
+{
+    if live_records(words, from, records, live) < most {
+        return LABELS as u64;
+    }
+    first_live(words, from, records, live)
+}
+
+// The same by the entries: their live bodies are summed for it.
+fn oldest_evicted(
+    words: &[u64],
+    limits: PendingFlowsConfig,
+    entries: usize,
+    from: usize,
+    records: usize,
+    clock: u64,
+) -> u64
+    requires { ⌜ entriesAt + entryWords * entries ≤ length (now words) ⌝ }
+    requires { ⌜ from + recordWords * records ≤ length (now words) ⌝ }
+    ensures { λ r.
+        ⌜ r ≡ firstEvicted (limits .«max_pending_flows») (liveSums (limits .ttl) clock (entriesFrom (now (words .entry))
+        entriesAt entries)) (recordsFrom (now (words .entry)) from records) ⌝ }
+{
+    let ttl = limits.ttl;
+    let mut live = [0u32; LABELS];
+    sums_by_label(words, entries, live_test(ttl, clock), false, &mut live);
+    first_evicted(words, from, records, limits.max_pending_flows, &live)
+}
+
+// Steps 3 to 5, by the records that step 2 leaves and the entries. The live bodies of other ids are looked at only
+// where a new id finds no room.
+fn decide(
+    words: &[u64],
+    limits: PendingFlowsConfig,
+    entries: usize,
+    from: usize,
+    records: usize,
+    id: u64,
+    clock: u64,
+) -> Decision
+    requires { ⌜ entriesAt + entryWords * entries ≤ length (now words) ⌝ }
+    requires { ⌜ from + recordWords * records ≤ length (now words) ⌝ }
+    requires { ⌜ LiveRead (limits .ttl) clock (recordsFrom (now words) from records) (entriesFrom (now words) entriesAt
+        entries) ⌝ }
+    ensures { λ r.
+        ⌜ Decides limits id (liveSums (limits .ttl) clock (entriesFrom (now (words .entry)) entriesAt entries))
+        (recordsFrom (now (words .entry)) from records) r ⌝ }
+{
+    let ttl = limits.ttl;
+    let found = record_of(words, from, records, id);
+    let here = live_in(words, entries, ttl, clock, found);
+    let live = (here as u64) == count_in(found);
+    if 0 < here {
+        return Decision {
+            full: limits.max_entries_per_template <= here,
+            all: false,
+            live,
+            first: LABELS as u64,
+        };
+    }
+    if others_fill(found, records, limits.max_pending_flows) {
+        let first = oldest_evicted(words, limits, entries, from, records, clock);
+        return Decision {
+            full: false,
+            all: true,
+            live,
+            first,
+        };
+    }
+    Decision {
+        full: false,
+        all: false,
+        live,
+        first: LABELS as u64,
+    }
+}
+
+// Whether it is certain that no body goes: no template is evicted, nothing is handed out, only the id's bodies may be
+// expired, and none of them is.
+fn nothing_goes(evicted: usize, chance: u64, decision: Decision) -> bool
+    ensures { λ r. ⌜ (r ≡ true → NothingGoes evicted chance decision) ⌝ }
+{
+    if 0 < evicted {
+        return false;
+    }
+    if 0 < chance {
+        return false;
+    }
+    if decision.all {
+        return false;
+    }
+    decision.live
+}
+
+// What an offer of a body of this length decides.
+pub fn plan_offer(
+    words: &[u64],
+    bytes: &[u8],
+    limits: PendingFlowsConfig,
+    figures: HeaderFigures,
+    id: u64,
+    len: usize,
+    clock: u64,
+) -> OfferPlan
+    requires { ⌜ (wellFormed (now words) (length (now bytes)) ≡ true) × (limits ≡ limitsOf (now words)) ⌝ }
+    requires { ⌜ (figures ≡ figuresAt (now words)) × (len ≤ limits .«max_total_bytes») ⌝ }
+    ensures { λ r. ⌜ Plans (now (words .entry)) (now (bytes .entry)) id len clock r ⌝ }
+{
+    let from = records_at(limits);
+    let held = figures.templates as usize;
+    let evicted = evictions_for(words, bytes, limits, figures, len);
+    let stay = from + RECORD_WORDS * evicted;
+    let left = held - evicted;
+    let entries = figures.entries as usize;
+    let decision = decide(words, limits, entries, stay, left, id, clock);
+    OfferPlan {
+        full: decision.full,
+        label: label_for(words, from, held, id),
+        all: decision.all,
+        none: nothing_goes(evicted, figures.chance, decision),
+        evicted,
+        first: decision.first,
+    }
+}
+
+// Sets in `skip` how many of each label's oldest bodies go by a plan.
+pub fn skip_planned(
+    words: &[u64],
+    bytes: &[u8],
+    limits: PendingFlowsConfig,
+    figures: HeaderFigures,
+    plan: OfferPlan,
+    skip: &mut [u32; LABELS],
+)
+    requires { ⌜ (wellFormed (now words) (length (now bytes)) ≡ true) × (limits ≡ limitsOf (now words)) ⌝ }
+    requires { ⌜ (figures ≡ figuresAt (now words)) × (plan .evicted ≤ heldCount (now words)) ⌝ }
+    requires { ⌜ now skip ≡ replicate 1024 0 ⌝ }
+    ensures { λ _. ⌜ now (skip .exit) ≡ skipOf (now (words .entry)) plan ⌝ }
+{
+    let from = records_at(limits);
+    let handed = from + RECORD_WORDS * (figures.templates as usize);
+    skip_records(words, from, plan.evicted, skip);
+    skip_records(words, handed, figures.chance as usize, skip);
+    set_sum(skip, plan.first, SKIP_ALL);
+}
