@@ -10,9 +10,10 @@ use Rattle.cache_model.specs.Reply.{called}
 use Rattle.pending_flows.specs.View.{Areas, view}
 use Rattle.pending_calls.specs.Promises.{Clears}
 use Rattle.pending_calls.specs.declared.clearing.ClearAnswer.{ClearAnswer}
-use Rattle.pending_drain.specs.Promises.{Drains, PutsBack}
+use Rattle.pending_drain.specs.Promises.{Drains}
 use Rattle.pending_drain.specs.declared.draining.DrainAnswer.{DrainAnswer}
-use Rattle.pending_drain.specs.declared.restoring.PutBackAnswer.{PutBackAnswer}
+use Rattle.pending_restore.specs.Promises.{PutsBack}
+use Rattle.pending_restore.specs.declared.PutBackAnswer.{PutBackAnswer}
 use Rattle.pending_offer.specs.Promises.{Offers, bodyOf}
 use Rattle.pending_offer.specs.declared.offering.OfferAnswer.{OfferAnswer}
 use Rattle.pending_resize.specs.Promises.{Resizes}

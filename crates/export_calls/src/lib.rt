@@ -3,7 +3,8 @@ ghost use mathlib.Core.Path.{_≡_};
 ghost use mathlib.Core.List.{[], _∷_};
 ghost use Rattle.pending_flows.specs.View.{areasOf};
 ghost use Rattle.pending_calls.specs.Promises.{clearAnswer};
-ghost use Rattle.pending_drain.specs.Promises.{drainAnswer, putBackNumber, putBackAnswer};
+ghost use Rattle.pending_drain.specs.Promises.{drainAnswer};
+ghost use Rattle.pending_restore.specs.Promises.{putBackNumber, putBackAnswer};
 ghost use Rattle.pending_offer.specs.Promises.{offerNumber, offerAnswer};
 ghost use Rattle.pending_resize.specs.Promises.{resizeAnswer};
 ghost use Rattle.export_queries.specs.Exports.{limitsFrom, exportedNumber, Exported};
@@ -11,11 +12,11 @@ ghost use Rattle.export_calls.specs.Calls.{ExportsCache, ExportsDrain, E
 use export_queries::limits_from;
 use pending_calls::ClearAnswer;
 use pending_drain::DrainAnswer;
-use pending_drain::PutBackAnswer;
-use pending_drain::PutBackRefusal;
 use pending_offer::OfferAnswer;
 use pending_offer::OfferRefusal;
 use pending_resize::ResizeAnswer;
+use pending_restore::PutBackAnswer;
+use pending_restore::PutBackRefusal;
 
 // Document 01's number of a refused offer.
 fn offer_refusal_number(refusal: OfferRefusal) -> u32
@@ -96,7 +97,7 @@ pub fn restore_replay_suffix(words: &mut [u64], bytes: &[u8], id: u16, count: us
         ⌜ ExportsPutBack id count (areasOf (now (words .entry)) (now (bytes .entry))) r
         (areasOf (now (words .exit)) (now (bytes .exit))) ⌝ }
 {
-    put_back_number(pending_drain::restore_replay_suffix(words, bytes, id, count))
+    put_back_number(pending_restore::restore_replay_suffix(words, bytes, id, count))
 }
 
 // Answers the number, and writes how many bodies are dropped on success.

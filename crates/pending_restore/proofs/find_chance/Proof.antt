@@ -6,9 +6,9 @@ use native.Mathlib.Omega.{arith}
 use borrow.Author.Needs.{needs}
 use Rattle.pending_flows.proofs.Questions.{header-within, bodies-few}
 use Rattle.pending_flows.proofs.Figures.{handed-within}
-use Rattle.pending_drain.proofs.Chances.{none-handed, other-id, too-few, chance-found}
-use Rattle.pending_drain.proofs.restoring.find_chance.Statement.{statement}
-use Rattle.pending_drain.proofs.restoring.find_chance.Tie as tie
+use Rattle.pending_restore.proofs.Chances.{none-handed, other-id, too-few, chance-found}
+use Rattle.pending_restore.proofs.find_chance.Statement.{statement}
+use Rattle.pending_restore.proofs.find_chance.Tie as tie
 
 shared-slice-read-if1 : tie.Need-shared-slice-read-if1
 shared-slice-read-if1 c = omega (arith, header-within _ _ (c .before .before .before .pre .0))

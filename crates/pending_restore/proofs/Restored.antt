@@ -35,12 +35,12 @@ use Rattle.pending_calls.specs.declared.removal.Removed.{Removed}
 use Rattle.pending_calls.specs.Promises.{Does}
 use Rattle.pending_calls.proofs.Headers.{headed}
 use Rattle.pending_calls.proofs.Removed.{TiedRows}
-use Rattle.pending_drain.specs.Restoring.{HasChance, TakesBack}
+use Rattle.pending_restore.specs.Restoring.{HasChance, TakesBack}
 use Rattle.pending_drain.proofs.HeldTotals.{held-total}
 use Rattle.pending_drain.proofs.LegalRows.{bodies-within, bodies-short, entries-few, held-limited, removed-tied}
 use Rattle.pending_drain.proofs.LegalRows.{removed-placed}
-use Rattle.pending_drain.proofs.RestoredRows as Rows
+use Rattle.pending_restore.proofs.RestoredRows as Rows
 use Rattle.pending_drain.proofs.Written.{written-frame, written-view}
 
 module _ (w b : List ℕ) (n : ℕ) (t : TemplateRecord) where
   abbrev p : ℕ

@@ -21,8 +21,8 @@ use Rattle.cache_model.specs.Calls.{mayPutBack}
 use Rattle.pending_flows.specs.View.{bodiesAt, cacheOf}
 use Rattle.pending_flows.proofs.Templates.{length-bodies}
 use Rattle.table_view.proofs.Tied.{words-tied}
-use Rattle.pending_drain.specs.declared.restoring.ChanceFound.the-variants as Chance
-use Rattle.pending_drain.specs.Restoring.{HasChance, FindsChance}
+use Rattle.pending_restore.specs.declared.ChanceFound.the-variants as Chance
+use Rattle.pending_restore.specs.Restoring.{HasChance, FindsChance}
 
 module _ (w b : List ℕ) (id n : ℕ) where
   -- nothing is found where there is no chance

@@ -14,9 +14,9 @@ use Rattle.pending_flows.specs.declared.header.HeaderFigures.{HeaderFigures}
 use Rattle.pending_flows.specs.View.{cacheOf}
 use Rattle.pending_calls.specs.declared.removal.Removed.{Removed}
 use Rattle.pending_calls.specs.Removal.{everything, counted, Removes}
-use Rattle.pending_drain.specs.declared.restoring.ChanceFound.{ChanceFound}
-use Rattle.pending_drain.specs.declared.restoring.ChanceFound.the-variants as Chance
+use Rattle.pending_restore.specs.declared.ChanceFound.{ChanceFound}
+use Rattle.pending_restore.specs.declared.ChanceFound.the-variants as Chance
 use Rattle.pending_drain.specs.Handing.{zeros}
 
 -- the template is the one that is handed out, with at least n bodies
 pub record HasChance (n : ℕ) (t : TemplateRecord) (w : List ℕ) : Type 0 where

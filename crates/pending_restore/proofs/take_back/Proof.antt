@@ -1,7 +1,7 @@
 use borrow.Author.Needs.{needs}
-use Rattle.pending_drain.proofs.Restores.{one-skip-long, taken-back}
-use Rattle.pending_drain.proofs.restoring.take_back.Statement.{statement}
-use Rattle.pending_drain.proofs.restoring.take_back.Tie as tie
+use Rattle.pending_restore.proofs.Restores.{one-skip-long, taken-back}
+use Rattle.pending_restore.proofs.take_back.Statement.{statement}
+use Rattle.pending_restore.proofs.take_back.Tie as tie
 
 add-records : tie.Need-add-records
 add-records c = search needs

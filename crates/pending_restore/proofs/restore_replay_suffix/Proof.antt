@@ -1,10 +1,10 @@
 use native.Mathlib.Nat.{pos-of-ne-zero}
 use borrow.Author.Needs.{needs}
 use Rattle.pending_flows.proofs.Questions.{well-formed}
-use Rattle.pending_drain.proofs.Restores.{has-chance, put-back-damaged, put-back-of-none, put-back-refused}
-use Rattle.pending_drain.proofs.Restores.{put-back-done}
-use Rattle.pending_drain.proofs.restoring.restore_replay_suffix.Statement.{statement}
-use Rattle.pending_drain.proofs.restoring.restore_replay_suffix.Tie as tie
+use Rattle.pending_restore.proofs.Restores.{has-chance, put-back-damaged, put-back-of-none, put-back-refused}
+use Rattle.pending_restore.proofs.Restores.{put-back-done}
+use Rattle.pending_restore.proofs.restore_replay_suffix.Statement.{statement}
+use Rattle.pending_restore.proofs.restore_replay_suffix.Tie as tie
 
 well-formed-requires : tie.Need-well-formed-requires
 well-formed-requires c κs = search needs

@@ -2,9 +2,9 @@ use native.Mathlib.Omega.{arith}
 use borrow.Author.Needs.{needs}
 use Rattle.pending_flows.proofs.Questions.{bodies-few, header-within}
 use Rattle.pending_calls.proofs.NoneRemoved.{records-few, entries-below, records-inside}
-use Rattle.pending_drain.proofs.Restores.{count-small, Settling, settling, put-back-written}
-use Rattle.pending_drain.proofs.restoring.put_back.Statement.{statement}
-use Rattle.pending_drain.proofs.restoring.put_back.Tie as tie
+use Rattle.pending_restore.proofs.Restores.{count-small, Settling, settling, put-back-written}
+use Rattle.pending_restore.proofs.put_back.Statement.{statement}
+use Rattle.pending_restore.proofs.put_back.Tie as tie
 
 -- the places before the limits and figures are read
 abbrev figured : tie.After-records-at → tie.After-figures-at

@@ -30,17 +30,17 @@ use Rattle.pending_calls.specs.Removal.{everything, counted, Removes}
 use Rattle.pending_calls.specs.Promises.{Does}
 use Rattle.pending_calls.proofs.Performed.{view-some, damaged-performs, performed, untouched-all}
 use Rattle.pending_calls.proofs.Removed.{records-within}
-use Rattle.pending_drain.specs.declared.restoring.ChanceFound.{ChanceFound}
-use Rattle.pending_drain.specs.declared.restoring.ChanceFound.the-variants as Chance
-use Rattle.pending_drain.specs.declared.restoring.PutBackRefusal.the-variants as Refusal
-use Rattle.pending_drain.specs.declared.restoring.PutBackAnswer.the-variants as PutBack
+use Rattle.pending_restore.specs.declared.ChanceFound.{ChanceFound}
+use Rattle.pending_restore.specs.declared.ChanceFound.the-variants as Chance
+use Rattle.pending_restore.specs.declared.PutBackRefusal.the-variants as Refusal
+use Rattle.pending_restore.specs.declared.PutBackAnswer.the-variants as PutBack
 use Rattle.pending_drain.specs.Handing.{zeros}
-use Rattle.pending_drain.specs.Restoring.{HasChance, FindsChance, TakesBack}
-use Rattle.pending_drain.specs.Promises.{PutsBack}
+use Rattle.pending_restore.specs.Restoring.{HasChance, FindsChance, TakesBack}
+use Rattle.pending_restore.specs.Promises.{PutsBack}
 use Rattle.pending_drain.proofs.AsRead.{as-read}
 use Rattle.pending_drain.proofs.Handing.{length-zeros}
 use Rattle.pending_drain.proofs.LegalRows.{removed-below, removed-fits}
-use Rattle.pending_drain.proofs.Restored.{put-back-does}
+use Rattle.pending_restore.proofs.Restored.{put-back-does}
 
 -- ---- what is taken out
 
