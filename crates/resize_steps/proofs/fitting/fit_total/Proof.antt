@@ -1,7 +1,7 @@
 use borrow.Author.Needs.{needs}
-use Rattle.pending_resize.proofs.Steps.{removed-as, total-skips-long}
-use Rattle.pending_resize.proofs.fitting.fit_total.Statement.{statement}
-use Rattle.pending_resize.proofs.fitting.fit_total.Tie as tie
+use Rattle.resize_steps.proofs.Steps.{removed-as, total-skips-long}
+use Rattle.resize_steps.proofs.fitting.fit_total.Statement.{statement}
+use Rattle.resize_steps.proofs.fitting.fit_total.Tie as tie
 
 skip-total-requires : tie.Need-skip-total-requires
 skip-total-requires c κs = search needs

@@ -1,7 +1,7 @@
 use borrow.Author.Needs.{needs}
-use Rattle.pending_resize.proofs.Steps.{cut-skips-long, removed-as}
-use Rattle.pending_resize.proofs.cutting.cut.Statement.{statement}
-use Rattle.pending_resize.proofs.cutting.cut.Tie as tie
+use Rattle.resize_steps.proofs.Steps.{cut-skips-long, removed-as}
+use Rattle.resize_steps.proofs.cutting.cut.Statement.{statement}
+use Rattle.resize_steps.proofs.cutting.cut.Tie as tie
 
 skip-cut-requires : tie.Need-skip-cut-requires
 skip-cut-requires c κs = search needs

@@ -34,11 +34,11 @@ use Rattle.table_view.proofs.Swept.{bodyStays, Within, placed-within}
 use Rattle.table_view.proofs.Summed.{label-count, summed-count}
 use Rattle.table_view.proofs.Closed.{closed-append, closed-none}
 use Rattle.table_view.proofs.Stored.{ids-differ}
-use Rattle.pending_resize.specs.Removing.{zeros, countsOf}
-use Rattle.pending_resize.specs.Cut.{smallEnough, cutSkips, Cuts}
-use Rattle.pending_resize.proofs.Steps.{cut-skips-long}
-use Rattle.pending_resize.proofs.Rows.{Rows, rows-left, count-left, templates-left}
-use Rattle.pending_resize.proofs.Chosen.{first-alike, small-kept}
+use Rattle.resize_steps.specs.Removing.{zeros, countsOf}
+use Rattle.resize_steps.specs.Cut.{smallEnough, cutSkips, Cuts}
+use Rattle.resize_steps.proofs.Steps.{cut-skips-long}
+use Rattle.resize_steps.proofs.Rows.{Rows, rows-left, count-left, templates-left}
+use Rattle.resize_steps.proofs.Chosen.{first-alike, small-kept}
 
 module _ (l : PendingFlowsConfig) (p n c m most : ℕ) (w b : List ℕ) (h : Rows p (n + c) m most w)
     (lent : most ≤ length b) where

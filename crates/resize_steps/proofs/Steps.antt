@@ -25,9 +25,9 @@ use Rattle.table_records.proofs.Skips.{length-skipping, length-skipping-over}
 use Rattle.pending_flows.proofs.Questions.{first-records}
 use Rattle.pending_calls.specs.declared.removal.Removed.{Removed}
 use Rattle.pending_calls.specs.Removal.{everything, Removes}
-use Rattle.pending_resize.specs.Removing.{zeros, RemovesSkipped}
-use Rattle.pending_resize.specs.Cut.{smallEnough, cutSkips}
-use Rattle.pending_resize.specs.Fit.{overTotal, totalSkips, fittedEntries, fittedBytes, FitsPlaces}
+use Rattle.resize_steps.specs.Removing.{zeros, RemovesSkipped}
+use Rattle.resize_steps.specs.Cut.{smallEnough, cutSkips}
+use Rattle.resize_steps.specs.Fit.{overTotal, totalSkips, fittedEntries, fittedBytes, FitsPlaces}
 
 -- the counts that a removal leaves are told by the entries
 pub skipped-removed : {q : StayTest} {p k m : ℕ} {skip w w′ kept′ : List ℕ} {r : Removed} →

@@ -4,7 +4,7 @@ ghost use Prim.Native.Nat.{_+_, _*_, _≤_};
 ghost use lib.ListN.{length};
 ghost use Rattle.config.specs.Limits.{recordWords, entryWords};
 ghost use Rattle.table.specs.Layout.{entriesAt};
-ghost use Rattle.pending_resize.specs.Removing.{RemovesSkipped};
+ghost use Rattle.resize_steps.specs.Removing.{RemovesSkipped};
 use pending_calls::Removed;
 use pending_calls::remove;
 use table::LABELS;

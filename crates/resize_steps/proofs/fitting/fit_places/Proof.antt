@@ -1,8 +1,8 @@
 use borrow.Author.Needs.{needs}
 use native.Mathlib.Omega.{arith}
-use Rattle.pending_resize.proofs.Steps.{ends-within, places-fit, places-packed}
-use Rattle.pending_resize.proofs.fitting.fit_places.Statement.{statement}
-use Rattle.pending_resize.proofs.fitting.fit_places.Tie as tie
+use Rattle.resize_steps.proofs.Steps.{ends-within, places-fit, places-packed}
+use Rattle.resize_steps.proofs.fitting.fit_places.Statement.{statement}
+use Rattle.resize_steps.proofs.fitting.fit_places.Tie as tie
 
 last-end-requires : tie.Need-last-end-requires
 last-end-requires c κs =

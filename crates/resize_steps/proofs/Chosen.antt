@@ -20,7 +20,7 @@ use Rattle.cache_model.specs.Removal.{evictions}
 use Rattle.cache_model.proofs.Thinning.{hasId}
 use Rattle.pending_flows.specs.View.{bodiesAt, templatesAt}
 use Rattle.table_view.proofs.Swept.{bodyStays}
-use Rattle.pending_resize.specs.Cut.{smallEnough}
+use Rattle.resize_steps.specs.Cut.{smallEnough}
 
 -- ---- the first templates, by label or by id
 

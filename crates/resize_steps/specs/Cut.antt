@@ -14,7 +14,7 @@ use Rattle.table_entries.specs.declared.StayTest.{StayTest}
 use Rattle.table_entries.specs.Sums.{summed}
 use Rattle.table_records.specs.Choose.{skipping, skippingOver}
 use Rattle.pending_calls.specs.declared.removal.Removed.{Removed}
-use Rattle.pending_resize.specs.Removing.{zeros, RemovesSkipped}
+use Rattle.resize_steps.specs.Removing.{zeros, RemovesSkipped}
 
 -- a body stays by itself where it is not over the new entry size
 abbrev pub smallEnough : PendingFlowsConfig → StayTest

@@ -8,7 +8,7 @@ ghost use Rattle.table.specs.Layout.{entriesAt};
 ghost use Rattle.table.specs.Table.{entriesFrom, recordsFrom};
 ghost use Rattle.table.specs.WellFormed.{placesLegal};
 ghost use Rattle.table_entries.specs.Sums.{heldSum};
-ghost use Rattle.pending_resize.specs.Fit.{totalSkips, FitsTotal, FitsPlaces};
+ghost use Rattle.resize_steps.specs.Fit.{totalSkips, FitsTotal, FitsPlaces};
 use super::removing::remove_skipped;
 use pending_calls::Removed;
 use pending_calls::stay_all;

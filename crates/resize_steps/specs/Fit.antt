@@ -15,7 +15,7 @@ use Rattle.table_entries.specs.Pack.{lastEnd, packedEntries, packedBytes}
 use Rattle.table_records.specs.Choose.{skipping, evictionsOf}
 use Rattle.pending_calls.specs.declared.removal.Removed.{Removed}
 use Rattle.pending_calls.specs.Removal.{everything}
-use Rattle.pending_resize.specs.Removing.{zeros, RemovesSkipped}
+use Rattle.resize_steps.specs.Removing.{zeros, RemovesSkipped}
 
 -- how many least recent templates go until the bytes of the others are at most `room`
 abbrev pub overTotal : ℕ → List TemplateRecord → List Entry → ℕ

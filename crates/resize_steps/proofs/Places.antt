@@ -23,8 +23,8 @@ use Rattle.pending_flows.specs.View.{bodiesAt, templatesAt}
 use Rattle.table_view.proofs.Tied.{Tied, entries-small}
 use Rattle.table_view.proofs.Packed.{packed-bodies, packed-drop}
 use Rattle.table_view.proofs.Closed.{same-templates}
-use Rattle.pending_resize.specs.Fit.{fittedEntries, fittedBytes, FitsPlaces}
-use Rattle.pending_resize.proofs.Rows.{Rows}
+use Rattle.resize_steps.specs.Fit.{fittedEntries, fittedBytes, FitsPlaces}
+use Rattle.resize_steps.proofs.Rows.{Rows}
 
 -- packed entries belong to the same records
 packed-tied : {rs : List TemplateRecord} {es : List Entry} {is : List ℕ} → Tied rs es is →

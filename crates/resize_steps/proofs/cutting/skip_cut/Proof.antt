@@ -1,7 +1,7 @@
 use borrow.Author.Needs.{needs}
-use Rattle.pending_resize.proofs.Steps.{cut-skips}
-use Rattle.pending_resize.proofs.cutting.skip_cut.Statement.{statement}
-use Rattle.pending_resize.proofs.cutting.skip_cut.Tie as tie
+use Rattle.resize_steps.proofs.Steps.{cut-skips}
+use Rattle.resize_steps.proofs.cutting.skip_cut.Statement.{statement}
+use Rattle.resize_steps.proofs.cutting.skip_cut.Tie as tie
 
 small-enough-requires : tie.Need-small-enough-requires
 small-enough-requires c κs = search needs

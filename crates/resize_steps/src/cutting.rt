@@ -5,7 +5,7 @@ ghost use lib.ListN.{length};
 ghost use Rattle.config.specs.Limits.{recordWords, entryWords};
 ghost use Rattle.table.specs.Layout.{entriesAt};
 ghost use Rattle.table.specs.Table.{entriesFrom, recordsFrom};
-ghost use Rattle.pending_resize.specs.Cut.{smallEnough, cutSkips, Cuts};
+ghost use Rattle.resize_steps.specs.Cut.{smallEnough, cutSkips, Cuts};
 use super::removing::remove_skipped;
 use config::PendingFlowsConfig;
 use config::RECORD_WORDS;

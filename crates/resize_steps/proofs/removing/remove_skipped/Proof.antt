@@ -1,7 +1,7 @@
 use borrow.Author.Needs.{needs}
-use Rattle.pending_resize.proofs.Steps.{skipped-removed}
-use Rattle.pending_resize.proofs.removing.remove_skipped.Statement.{statement}
-use Rattle.pending_resize.proofs.removing.remove_skipped.Tie as tie
+use Rattle.resize_steps.proofs.Steps.{skipped-removed}
+use Rattle.resize_steps.proofs.removing.remove_skipped.Statement.{statement}
+use Rattle.resize_steps.proofs.removing.remove_skipped.Tie as tie
 
 remove-requires : tie.Need-remove-requires
 remove-requires c κs = search needs

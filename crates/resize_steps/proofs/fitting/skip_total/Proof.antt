@@ -1,7 +1,7 @@
 use borrow.Author.Needs.{needs}
-use Rattle.pending_resize.proofs.Steps.{evicted-within, total-skips}
-use Rattle.pending_resize.proofs.fitting.skip_total.Statement.{statement}
-use Rattle.pending_resize.proofs.fitting.skip_total.Tie as tie
+use Rattle.resize_steps.proofs.Steps.{evicted-within, total-skips}
+use Rattle.resize_steps.proofs.fitting.skip_total.Statement.{statement}
+use Rattle.resize_steps.proofs.fitting.skip_total.Tie as tie
 
 stay-all-requires : tie.Need-stay-all-requires
 stay-all-requires c κs = search needs

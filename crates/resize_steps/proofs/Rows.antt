@@ -29,7 +29,7 @@ use Rattle.table_view.proofs.Removed.{removed-apart}
 use Rattle.table_view.proofs.Swept.{bodyStays, Within, placed-within, swept-bodies, swept-tally}
 use Rattle.table_view.proofs.Closed.{closed-templates}
 use Rattle.table_view.proofs.Summed.{lenMost}
-use Rattle.pending_resize.specs.Removing.{countsOf, RemovesSkipped}
+use Rattle.resize_steps.specs.Removing.{countsOf, RemovesSkipped}
 
 -- k records from word p on and m entries; their bodies end within `most` bytes
 pub record Rows (p k m most : ℕ) (w : List ℕ) : Type 0 where

@@ -30,11 +30,11 @@ use Rattle.table_view.proofs.Removed.{placed-short}
 use Rattle.table_view.proofs.Swept.{bodyStays, Within, placed-within}
 use Rattle.table_view.proofs.Summed.{label-bytes, everything-stays}
 use Rattle.table_view.proofs.Totals.{held-sum-lens, held-sum-total}
-use Rattle.pending_resize.specs.Removing.{zeros}
-use Rattle.pending_resize.specs.Fit.{overTotal, totalSkips, FitsTotal}
-use Rattle.pending_resize.proofs.Steps.{total-skips-long}
-use Rattle.pending_resize.proofs.Rows.{Rows, rows-left, templates-left}
-use Rattle.pending_resize.proofs.Chosen.{first-alike, evictions-alike}
+use Rattle.resize_steps.specs.Removing.{zeros}
+use Rattle.resize_steps.specs.Fit.{overTotal, totalSkips, FitsTotal}
+use Rattle.resize_steps.proofs.Steps.{total-skips-long}
+use Rattle.resize_steps.proofs.Rows.{Rows, rows-left, templates-left}
+use Rattle.resize_steps.proofs.Chosen.{first-alike, evictions-alike}
 
 -- the templates without the least recent ones that pass a total
 abbrev pub underTotal : ℕ → List Template → List Template

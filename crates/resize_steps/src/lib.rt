@@ -1,0 +1,8 @@
+// The steps of a resize: cutting to the new counts and sizes, and fitting what is left into the new total.
+mod cutting;
+mod fitting;
+mod removing;
+
+pub use cutting::cut;
+pub use fitting::fit_places;
+pub use fitting::fit_total;
