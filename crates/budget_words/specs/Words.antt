@@ -82,3 +82,14 @@ writtenOver (v ∷ vs) words = v ∷ vs
 pub record Answers (t : Told) (r : ℕ) (words words′ : List ℕ) : Type 0 where
   pub returned : r ≡ t .number
   pub written : words′ ≡ writtenOver (t .values) words
+
+-- an answer handed over, and the budget after the call
+pub record Changes (t : Told) (b : DecodedOutputBudget) (r : ℕ) (words words′ budget′ : List ℕ) : Type 0 where
+  pub answer : Answers t r words words′
+  pub after : budget′ ≡ wordsOf b
+
+-- the same of a call that is refused without a trace: document 01 has it leave the words as they were
+pub record ChangesUnlessRefused
+    (t : Told) (b : DecodedOutputBudget) (r : ℕ) (words words′ budget budget′ : List ℕ) : Type 0 where
+  pub answer : Answers t r words words′
+  pub after : budget′ ≡ cond (eqb (t .number) 0) (wordsOf b) budget

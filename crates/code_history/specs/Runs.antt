@@ -21,8 +21,9 @@ use Rattle.pending_flows.specs.HandedOut.{PlacesHandedOut, ReadsHandedOut, plac
 use Rattle.pending_calls.specs.declared.clearing.ClearAnswer.{ClearAnswer}
 use Rattle.pending_calls.specs.Promises.{Clears, clearAnswer}
 use Rattle.pending_drain.specs.declared.draining.DrainAnswer.{DrainAnswer}
-use Rattle.pending_drain.specs.declared.restoring.PutBackAnswer.{PutBackAnswer}
-use Rattle.pending_drain.specs.Promises.{Drains, drainAnswer, PutsBack, putBackAnswer}
+use Rattle.pending_drain.specs.Promises.{Drains, drainAnswer}
+use Rattle.pending_restore.specs.declared.PutBackAnswer.{PutBackAnswer}
+use Rattle.pending_restore.specs.Promises.{PutsBack, putBackAnswer}
 use Rattle.pending_offer.specs.declared.offering.OfferAnswer.{OfferAnswer}
 use Rattle.pending_offer.specs.Promises.{Offers, offerAnswer}
 use Rattle.pending_resize.specs.declared.resizing.ResizeAnswer.{ResizeAnswer}

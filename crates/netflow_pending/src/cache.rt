@@ -1,42 +1,60 @@
-// The calls that change a cache: each answers document 01's number, 0 on success, and writes values then only.
-ghost use mathlib.Core.Path.{_≡_};
-ghost use mathlib.Core.List.{[], _∷_};
+// The cache's calls: each answers document 01's number, 0 on success, and writes values then only.
 ghost use Rattle.pending_flows.specs.View.{areasOf};
-ghost use Rattle.pending_calls.specs.Promises.{clearAnswer};
-ghost use Rattle.pending_drain.specs.Promises.{drainAnswer, putBackNumber, putBackAnswer};
-ghost use Rattle.pending_offer.specs.Promises.{offerNumber, offerAnswer};
-ghost use Rattle.pending_resize.specs.Promises.{resizeAnswer};
-ghost use Rattle.netflow_pending.specs.Cache.{limitsFrom, exportedNumber, Exported};
-ghost use Rattle.netflow_pending.specs.Cache.{ExportsCache, ExportsDrain, ExportsPutBack, ExportsResize};
-ghost use Rattle.netflow_pending.specs.Cache.{ExportsClear};
-use super::opening::limits_from;
-use pending_calls::ClearAnswer;
-use pending_drain::DrainAnswer;
-use pending_drain::PutBackAnswer;
-use pending_drain::PutBackRefusal;
-use pending_offer::OfferAnswer;
-use pending_offer::OfferRefusal;
-use pending_resize::ResizeAnswer;
+ghost use Rattle.export_queries.specs.Exports.{limitsFrom, ExportsValidate, ExportsOpen};
+ghost use Rattle.export_queries.specs.Exports.{ExportsWouldAccept, ExportsFigures, ExportsPlace};
+ghost use Rattle.export_calls.specs.Calls.{ExportsCache, ExportsDrain, ExportsPutBack, ExportsResize, ExportsClear};
 
-// Document 01's number of a refused offer.
-fn offer_refusal_number(refusal: OfferRefusal) -> u32
-    ensures { λ r. ⌜ r ≡ offerNumber refusal ⌝ }
+// Whether a cache can be opened with these limits in areas of these lengths: 0, or 1 to 5.
+#[no_mangle]
+pub extern "C" fn netflow_pending_validate_config(
+    words_len: usize,
+    bytes_len: usize,
+    max_pending_flows: usize,
+    max_entries_per_template: usize,
+    max_entry_size_bytes: usize,
+    max_total_bytes: usize,
+) -> u32
+    ensures { λ r.
+        ⌜ ExportsValidate «words_len» «bytes_len» «max_pending_flows» «max_entries_per_template»
+        «max_entry_size_bytes» «max_total_bytes» r ⌝ }
 {
-    match refusal {
-        OfferRefusal::TooLong => 6,
-        OfferRefusal::TemplateFull => 20,
-        OfferRefusal::Damaged => 28,
-    }
+    export_queries::validate_config(
+        words_len,
+        bytes_len,
+        max_pending_flows,
+        max_entries_per_template,
+        max_entry_size_bytes,
+        max_total_bytes,
+    )
 }
 
-// The same of any offer, 0 where the body is cached.
-fn offer_number(answer: OfferAnswer) -> u32
-    ensures { λ r. ⌜ r ≡ exportedNumber (offerAnswer answer) ⌝ }
+// Opens an empty cache in areas with any content: 0, or 1 to 5 with nothing changed.
+#[no_mangle]
+pub extern "C" fn netflow_pending_open(
+    words: &mut [u64],
+    bytes: &[u8],
+    max_pending_flows: usize,
+    max_entries_per_template: usize,
+    max_entry_size_bytes: usize,
+    max_total_bytes: usize,
+    has_ttl: u32,
+    ttl: u64,
+) -> u32
+    ensures { λ r.
+        ⌜ ExportsOpen (limitsFrom «max_pending_flows» «max_entries_per_template» «max_entry_size_bytes»
+        «max_total_bytes» «has_ttl» ttl) (areasOf (now (words .entry)) (now (bytes .entry))) r
+        (areasOf (now (words .exit)) (now (bytes .exit))) ⌝ }
 {
-    match answer {
-        OfferAnswer::Cached => 0,
-        OfferAnswer::Refused(refusal) => offer_refusal_number(refusal),
-    }
+    export_queries::open(
+        words,
+        bytes,
+        max_pending_flows,
+        max_entries_per_template,
+        max_entry_size_bytes,
+        max_total_bytes,
+        has_ttl,
+        ttl,
+    )
 }
 
 // Offers a body: 0, or 28, 6 or 20.
@@ -52,21 +70,7 @@ pub extern "C" fn netflow_pending_cache(
         ⌜ ExportsCache id (now (body .entry)) clock (areasOf (now (words .entry)) (now (bytes .entry))) r
         (areasOf (now (words .exit)) (now (bytes .exit))) ⌝ }
 {
-    offer_number(pending_offer::cache(words, bytes, id, body, clock))
-}
-
-// Answers the number, and writes how many bodies are handed out on success.
-fn export_handed_out(answer: DrainAnswer, handed_out: &mut u64) -> u32
-    ensures { λ r.
-        ⌜ Exported (drainAnswer answer) r (now («handed_out» .entry) ∷ []) (now («handed_out» .exit) ∷ []) ⌝ }
-{
-    match answer {
-        DrainAnswer::HandedOut(count) => {
-            *handed_out = count as u64;
-            0
-        }
-        DrainAnswer::Damaged => 28,
-    }
+    export_calls::cache(words, bytes, id, body, clock)
 }
 
 // Removes an id and hands out its unexpired bodies: 0 with their number, or 28.
@@ -82,27 +86,7 @@ pub extern "C" fn netflow_pending_drain(
         ⌜ ExportsDrain id clock (areasOf (now (words .entry)) (now (bytes .entry))) r
         (areasOf (now (words .exit)) (now (bytes .exit))) (now («handed_out» .entry)) (now («handed_out» .exit)) ⌝ }
 {
-    export_handed_out(pending_drain::drain(words, bytes, id, clock), handed_out)
-}
-
-// Document 01's number of a refused put-back.
-fn put_back_refusal_number(refusal: PutBackRefusal) -> u32
-    ensures { λ r. ⌜ r ≡ putBackNumber refusal ⌝ }
-{
-    match refusal {
-        PutBackRefusal::NoChance => 25,
-        PutBackRefusal::Damaged => 28,
-    }
-}
-
-// The same of any put-back, 0 where it is done.
-fn put_back_number(answer: PutBackAnswer) -> u32
-    ensures { λ r. ⌜ r ≡ exportedNumber (putBackAnswer answer) ⌝ }
-{
-    match answer {
-        PutBackAnswer::Done => 0,
-        PutBackAnswer::Refused(refusal) => put_back_refusal_number(refusal),
-    }
+    export_calls::drain(words, bytes, id, clock, handed_out)
 }
 
 // Puts the last `count` bodies handed out back: 0, or 28 or 25.
@@ -117,21 +101,7 @@ pub extern "C" fn netflow_pending_restore_replay_suffix(
         ⌜ ExportsPutBack id count (areasOf (now (words .entry)) (now (bytes .entry))) r
         (areasOf (now (words .exit)) (now (bytes .exit))) ⌝ }
 {
-    put_back_number(pending_drain::restore_replay_suffix(words, bytes, id, count))
-}
-
-// Answers the number, and writes how many bodies are dropped on success.
-fn export_dropped(answer: ResizeAnswer, dropped: &mut u64) -> u32
-    ensures { λ r. ⌜ Exported (resizeAnswer answer) r (now (dropped .entry) ∷ []) (now (dropped .exit) ∷ []) ⌝ }
-{
-    match answer {
-        ResizeAnswer::Dropped(count) => {
-            *dropped = count as u64;
-            0
-        }
-        ResizeAnswer::Refused(refusal) => config::config_number(refusal),
-        ResizeAnswer::Damaged => 28,
-    }
+    export_calls::restore_replay_suffix(words, bytes, id, count)
 }
 
 // Changes the limits and drops what they leave no room for: 0 with the number dropped, or 28 or 1 to 5.
@@ -152,25 +122,17 @@ pub extern "C" fn netflow_pending_resize(
         «max_total_bytes» «has_ttl» ttl) (areasOf (now (words .entry)) (now (bytes .entry))) r
         (areasOf (now (words .exit)) (now (bytes .exit))) (now (dropped .entry)) (now (dropped .exit)) ⌝ }
 {
-    let limits = limits_from(
+    export_calls::resize(
+        words,
+        bytes,
         max_pending_flows,
         max_entries_per_template,
         max_entry_size_bytes,
         max_total_bytes,
         has_ttl,
         ttl,
-    );
-    export_dropped(pending_resize::resize(words, bytes, limits), dropped)
-}
-
-// 28, or 0 where the cache is cleared.
-fn clear_number(answer: ClearAnswer) -> u32
-    ensures { λ r. ⌜ r ≡ exportedNumber (clearAnswer answer) ⌝ }
-{
-    match answer {
-        ClearAnswer::Done => 0,
-        ClearAnswer::Damaged => 28,
-    }
+        dropped,
+    )
 }
 
 // Empties the cache and leaves its counters: 0, or 28.
@@ -180,5 +142,51 @@ pub extern "C" fn netflow_pending_clear(words: &mut [u64], bytes: &[u8]) -> u32
         ⌜ ExportsClear (areasOf (now (words .entry)) (now (bytes .entry))) r
         (areasOf (now (words .exit)) (now (bytes .exit))) ⌝ }
 {
-    clear_number(pending_calls::clear(words, bytes))
+    export_calls::clear(words, bytes)
+}
+
+// Whether an offer would be accepted: 0 with 1 for yes or 0 for no, or 28.
+#[no_mangle]
+pub extern "C" fn netflow_pending_would_accept(
+    words: &[u64],
+    bytes: &[u8],
+    id: u16,
+    length: usize,
+    clock: u64,
+    accepts: &mut u64,
+) -> u32
+    ensures { λ r.
+        ⌜ ExportsWouldAccept id length clock (areasOf (now (words .entry)) (now (bytes .entry))) r
+        (areasOf (now (words .exit)) (now (bytes .exit))) (now (accepts .entry)) (now (accepts .exit)) ⌝ }
+{
+    export_queries::would_accept(words, bytes, id, length, clock, accepts)
+}
+
+// Templates and bodies held, bytes held, both counters and the bodies handed out: 0 with these, or 28.
+#[no_mangle]
+pub extern "C" fn netflow_pending_figures(
+    words: &[u64],
+    bytes: &[u8],
+    figures: &mut [u64; 6],
+) -> u32
+    ensures { λ r.
+        ⌜ ExportsFigures (areasOf (now (words .entry)) (now (bytes .entry))) r
+        (areasOf (now (words .exit)) (now (bytes .exit))) (now (figures .entry)) (now (figures .exit)) ⌝ }
+{
+    export_queries::figures(words, bytes, figures)
+}
+
+// Where a handed-out body lies in the byte area, and its length: 0 with these, or 28 or 27.
+#[no_mangle]
+pub extern "C" fn netflow_pending_place_handed_out(
+    words: &[u64],
+    bytes: &[u8],
+    number: usize,
+    place: &mut [u64; 2],
+) -> u32
+    ensures { λ r.
+        ⌜ ExportsPlace number (areasOf (now (words .entry)) (now (bytes .entry))) r
+        (areasOf (now (words .exit)) (now (bytes .exit))) (now (place .entry)) (now (place .exit)) ⌝ }
+{
+    export_queries::place_handed_out(words, bytes, number, place)
 }

@@ -1,25 +1,6 @@
 // The preflight, one function for each reading.
 ghost use Rattle.wire.specs.declared.Reading.the-variants.{V9Fixed, IpfixFixed, IpfixVariable};
-ghost use Rattle.output_preflight.specs.Preflight.{answerOf};
-ghost use Rattle.netflow_pending.specs.Framing.{Exported, Preflights};
-use output_preflight::PreflightAnswer;
-use wire::Reading;
-
-// Answers the number, and writes field values, payload bytes and remainder on success.
-fn export(answer: PreflightAnswer, cost: &mut [u64; 3]) -> u32
-    ensures { λ r. ⌜ Exported (answerOf answer) r (now (cost .entry)) (now (cost .exit)) ⌝ }
-{
-    match answer {
-        PreflightAnswer::Valid(measured) => {
-            let values = measured.field_values.0;
-            let payload = measured.field_payload_bytes.0;
-            let remainder = measured.remainder_len;
-            *cost = [values as u64, payload as u64, remainder as u64];
-            0
-        }
-        PreflightAnswer::Refused(refusal) => output_preflight::refusal_number(refusal),
-    }
-}
+ghost use Rattle.export_framing.specs.Framing.{Preflights};
 
 // The preflight of a NetFlow v9 body: 0 with the cost written, or 9, 12 or 7 with the words as they were.
 #[no_mangle]
@@ -33,10 +14,7 @@ pub extern "C" fn netflow_preflight_v9_fixed(
         ⌜ Preflights (now (body .entry)) (now (widths .entry)) V9Fixed «max_records» r
         (now (cost .entry)) (now (cost .exit)) ⌝ }
 {
-    export(
-        output_preflight::preflight(body, widths, Reading::V9Fixed, max_records),
-        cost,
-    )
+    export_framing::preflight_v9_fixed(body, widths, max_records, cost)
 }
 
 // The same of an IPFIX body without variable-length fields.
@@ -51,10 +29,7 @@ pub extern "C" fn netflow_preflight_ipfix_fixed(
         ⌜ Preflights (now (body .entry)) (now (widths .entry)) IpfixFixed «max_records» r
         (now (cost .entry)) (now (cost .exit)) ⌝ }
 {
-    export(
-        output_preflight::preflight(body, widths, Reading::IpfixFixed, max_records),
-        cost,
-    )
+    export_framing::preflight_ipfix_fixed(body, widths, max_records, cost)
 }
 
 // The same of an IPFIX body in which fields of width 65,535 say their length themselves.
@@ -69,8 +44,5 @@ pub extern "C" fn netflow_preflight_ipfix_variable(
         ⌜ Preflights (now (body .entry)) (now (widths .entry)) IpfixVariable «max_records» r
         (now (cost .entry)) (now (cost .exit)) ⌝ }
 {
-    export(
-        output_preflight::preflight(body, widths, Reading::IpfixVariable, max_records),
-        cost,
-    )
+    export_framing::preflight_ipfix_variable(body, widths, max_records, cost)
 }

@@ -10,7 +10,3 @@ pub mod Drained
 pub mod AsRead
 pub mod NoneTaken
 pub mod Drains
-pub mod RestoredRows
-pub mod Restored
-pub mod Chances
-pub mod Restores

@@ -1,3 +1,2 @@
 pub mod Promises
 pub mod Handing
-pub mod Restoring

@@ -1,38 +1,18 @@
--- What draining and putting back promise.
-use mathlib.Core.Path.{_≡_}
+-- What draining promises.
 use Prim.Native.Nat.{ℕ}
 use Rattle.table.specs.Layout.{limitsOf}
-use Rattle.cache_model.specs.Cache.{Answer, done, number, count}
-use Rattle.cache_model.specs.Calls.{drained, putBack}
+use Rattle.cache_model.specs.Cache.{Answer, number, count}
+use Rattle.cache_model.specs.Calls.{drained}
 use Rattle.pending_flows.specs.View.{Areas}
 use Rattle.pending_calls.specs.Promises.{Performs, UntouchedPast}
 use Rattle.pending_drain.specs.declared.draining.DrainAnswer.{DrainAnswer}
 use Rattle.pending_drain.specs.declared.draining.DrainAnswer.the-variants as Drain
-use Rattle.pending_drain.specs.declared.restoring.PutBackRefusal.{PutBackRefusal}
-use Rattle.pending_drain.specs.declared.restoring.PutBackRefusal.the-variants as Refusal
-use Rattle.pending_drain.specs.declared.restoring.PutBackAnswer.{PutBackAnswer}
-use Rattle.pending_drain.specs.declared.restoring.PutBackAnswer.the-variants as PutBack
 
 -- document 01's answer of each case
 abbrev pub drainAnswer : DrainAnswer → Answer
 drainAnswer (Drain.HandedOut n) = count n
 drainAnswer Drain.Damaged = number 28
 
-abbrev pub putBackNumber : PutBackRefusal → ℕ
-putBackNumber Refusal.NoChance = 25
-putBackNumber Refusal.Damaged = 28
-
-abbrev pub putBackAnswer : PutBackAnswer → Answer
-putBackAnswer PutBack.Done = done
-putBackAnswer (PutBack.Refused n) = number (putBackNumber n)
-
 pub record Drains (id now : ℕ) (a : Areas) (r : DrainAnswer) (a′ : Areas) : Type 0 where
   pub performs : Performs (drained id now) a (drainAnswer r) a′
-  pub frame : UntouchedPast (limitsOf (a .words)) a a′
-
--- A put-back that is refused with 25, and one of 0 bodies, change nothing at all.
-pub record PutsBack (id n : ℕ) (a : Areas) (r : PutBackAnswer) (a′ : Areas) : Type 0 where
-  pub performs : Performs (putBack id n) a (putBackAnswer r) a′
-  pub refused : putBackAnswer r ≡ number 25 → a′ ≡ a
-  pub nothing : n ≡ 0 → a′ ≡ a
   pub frame : UntouchedPast (limitsOf (a .words)) a a′

@@ -31,13 +31,13 @@ use Rattle.pending_flows.proofs.Questions.{first-records}
 use Rattle.pending_calls.specs.declared.removal.Removed.{Removed}
 use Rattle.table_view.proofs.Tied.{Tied, words-tied}
 use Rattle.table_view.proofs.Stored.{limits-legal, legal-limited, tied-legal}
-use Rattle.pending_resize.specs.Cut.{Cuts}
-use Rattle.pending_resize.specs.Fit.{FitsTotal, FitsPlaces}
+use Rattle.resize_steps.specs.Cut.{Cuts}
+use Rattle.resize_steps.specs.Fit.{FitsTotal, FitsPlaces}
 use Rattle.pending_resize.specs.Shrink.{Shrinks}
-use Rattle.pending_resize.proofs.Rows.{Rows, rows-small}
-use Rattle.pending_resize.proofs.Cuts.{cut-rows, cut-templates}
-use Rattle.pending_resize.proofs.Fits.{rows-bytes, underTotal, fit-rows, fit-templates}
-use Rattle.pending_resize.proofs.Places.{placed-rows, placed-templates, placed-behind}
+use Rattle.resize_steps.proofs.Rows.{Rows, rows-small}
+use Rattle.resize_steps.proofs.Cuts.{cut-rows, cut-templates}
+use Rattle.resize_steps.proofs.Fits.{rows-bytes, underTotal, fit-rows, fit-templates}
+use Rattle.resize_steps.proofs.Places.{placed-rows, placed-templates, placed-behind}
 use Rattle.pending_resize.proofs.Moves.{records-moved, index-moved, entries-before, words-behind}
 
 module _ (l : PendingFlowsConfig) (w b : List ℕ) (p : ℕ) (f : HeaderFigures)

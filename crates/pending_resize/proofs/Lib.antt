@@ -1,9 +1,3 @@
-pub mod Steps
-pub mod Rows
-pub mod Chosen
-pub mod Cuts
-pub mod Fits
-pub mod Places
 pub mod Moves
 pub mod Left
 pub mod Resized

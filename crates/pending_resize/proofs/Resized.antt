@@ -40,8 +40,8 @@ use Rattle.table_view.proofs.Tied.{Tied, legal-tied}
 use Rattle.table_view.proofs.Stored.{limits-legal, legal-limited, Stored, tableWith, stored-view}
 use Rattle.pending_resize.specs.Shrink.{tableLeft, Shrinks}
 use Rattle.pending_resize.specs.Promises.{ResizesTo}
-use Rattle.pending_resize.proofs.Rows.{Rows, rows-small}
-use Rattle.pending_resize.proofs.Fits.{rows-total}
+use Rattle.resize_steps.proofs.Rows.{Rows, rows-small}
+use Rattle.resize_steps.proofs.Fits.{rows-total}
 
 -- where the records stand
 pub old-place : (w : List ℕ) (was : PendingFlowsConfig) → was ≡ limitsOf w → (p : ℕ) → p ≡ recordsAt was →

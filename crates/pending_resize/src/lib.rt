@@ -1,6 +1,4 @@
 // Resizing a pending flow cache (pending_flows.rs).
-mod cutting;
-mod fitting;
 mod resizing;
 mod shrinking;
 

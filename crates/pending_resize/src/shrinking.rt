@@ -7,13 +7,13 @@ ghost use Rattle.table.specs.Layout.{limitsOf, recordsAt};
 ghost use Rattle.table.specs.WellFormed.{wellFormed};
 ghost use Rattle.pending_flows.specs.Header.{figuresAt};
 ghost use Rattle.pending_resize.specs.Shrink.{Shrinks};
-use super::cutting::cut;
-use super::fitting::fit_places;
-use super::fitting::fit_total;
 use config::PendingFlowsConfig;
 use config::RECORD_WORDS;
 use pending_calls::Removed;
 use pending_flows::HeaderFigures;
+use resize_steps::cut;
+use resize_steps::fit_places;
+use resize_steps::fit_total;
 use table::records_at;
 
 // Removes what the new limits do not leave, moves bodies where the new total demands it, and the records to the place

@@ -1,5 +1,3 @@
-pub mod Splits
 pub mod Ends
-pub mod Digits
 pub mod Lines
 pub mod Ramp

@@ -10,8 +10,8 @@ use lib.Dec.{eqb, eqb·suc-suc}
 use borrow.Author.Tests.{le-leb, lt-leb}
 use Rattle.config.specs.declared.Ttl.{Ttl}
 use Rattle.config.specs.declared.Ttl.the-variants.{None, After}
-use Rattle.pendlist_lines.specs.declared.words.NumberFound.{NumberFound}
-use Rattle.pendlist_lines.specs.declared.words.NumberFound.the-variants.{At, Nothing}
+use Rattle.pendlist_words.specs.declared.NumberFound.{NumberFound}
+use Rattle.pendlist_words.specs.declared.NumberFound.the-variants.{At, Nothing}
 use Rattle.pendlist_lines.specs.declared.TtlFound.{TtlFound}
 use Rattle.pendlist_lines.specs.declared.TtlFound.the-variants.{Is, Neither}
 use Rattle.pendlist_lines.specs.declared.Line.{Line}

@@ -1,69 +1,24 @@
 -- The grammar of an input line of `pendlist`, given without its newline (document 01, "Cases"). Decided here:
--- words are separated by exactly one blank (32), and none stands before the first word or behind the last; the first
--- word is exactly `c`, `o` or `d`; a number is one or more decimal digits, leading zeros are taken, and above 2^64 - 1
--- it is none; ids and lengths are at most 65,535; the limits of `c` are any numbers, since opening tests them; a line
--- has at most 255 bytes, and a longer one is malformed whatever it says: with leading zeros left out none has more
--- than 106, and so a line fits a bounded buffer. How an input is parted into lines is in Input.antt.
+-- the first word is exactly `c`, `o` or `d`; ids and lengths are at most 65,535; the limits of `c` are any numbers,
+-- since opening tests them; a line has at most 255 bytes, and a longer one is malformed whatever it says: with leading
+-- zeros left out none has more than 106, and so a line fits a bounded buffer. What words and numbers are is in
+-- pendlist_words (specs/Words.antt), how an input is parted into lines in Input.antt.
 -- All else is malformed: an empty line, a tab, a carriage return, a sign, a word missing or too many.
-use mathlib.Core.Bool.{Bool, true, false, cond}
-use mathlib.Core.List.{List, [], _∷_}
-use Prim.Native.Nat.{ℕ, _+_, _*_, _-_}
-use lib.ListN.{length, getD}
+use mathlib.Core.Bool.{Bool, cond, false}
+use mathlib.Core.List.{List}
+use Prim.Native.Nat.{ℕ, _+_}
+use lib.ListN.{length}
 use lib.Dec.{eqb, leb}
 use Rattle.config.specs.declared.Ttl.{Ttl}
 use Rattle.config.specs.declared.Ttl.the-variants.{None, After}
-use Rattle.pendlist_lines.specs.declared.words.NumberFound.{NumberFound}
-use Rattle.pendlist_lines.specs.declared.words.NumberFound.the-variants.{At, Nothing}
+use Rattle.pendlist_words.specs.declared.NumberFound.{NumberFound}
+use Rattle.pendlist_words.specs.declared.NumberFound.the-variants.{At, Nothing}
+pub use Rattle.pendlist_words.specs.Words.{longer, wordAt}
+unfoldable pub use Rattle.pendlist_words.specs.Words.{wordsOf, isByte, allDigits, valueFrom, numberFrom, numberOf}
 use Rattle.pendlist_lines.specs.declared.TtlFound.{TtlFound}
 use Rattle.pendlist_lines.specs.declared.TtlFound.the-variants.{Is, Neither}
 use Rattle.pendlist_lines.specs.declared.Line.{Line}
 use Rattle.pendlist_lines.specs.declared.Line.the-variants.{Open, Offer, Drain, Bad}
-
--- the words with one byte more at the front of the first
-abbrev pub longer : ℕ → List (List ℕ) → List (List ℕ)
-longer b [] = (b ∷ []) ∷ []
-longer b (w ∷ ws) = (b ∷ w) ∷ ws
-
--- the words of a line: what its blanks part. There is one word more than blanks, and a word can be empty
-unfoldable pub wordsOf : List ℕ → List (List ℕ)
-wordsOf [] = [] ∷ []
-wordsOf (b ∷ s) = cond (eqb b 32) ([] ∷ wordsOf s) (longer b (wordsOf s))
-
--- word k, counted from 0; the empty word where there is none
-abbrev pub wordAt : ℕ → List (List ℕ) → List ℕ
-wordAt k ws = getD ws k []
-
--- whether a word is this one byte
-unfoldable pub isByte : ℕ → List ℕ → Bool
-isByte b w = cond (eqb (length w) 1) (eqb (getD w 0 0) b) false
-
--- `0` to `9`
-abbrev pub isDigit : ℕ → Bool
-isDigit b = cond (leb 48 b) (leb b 57) false
-
--- digits alone
-unfoldable pub allDigits : List ℕ → Bool
-allDigits [] = true
-allDigits (b ∷ w) = cond (isDigit b) (allDigits w) false
-
--- the value of digits behind a number: each makes it ten times as large and is added
-unfoldable pub valueFrom : ℕ → List ℕ → ℕ
-valueFrom v [] = v
-valueFrom v (b ∷ w) = valueFrom (v * 10 + (b - 48)) w
-
--- 2^64 - 1
-abbrev pub most : ℕ
-most = 18446744073709551615
-
--- the number that digits behind a number make, if they are digits and it is at most 2^64 - 1
-unfoldable pub numberFrom : ℕ → List ℕ → NumberFound
-numberFrom v w =
-    cond (allDigits w) (cond (leb (valueFrom v w) most) (At (valueFrom v w)) Nothing) Nothing
-
--- the number that a word says, if it says one: an empty word says none
-unfoldable pub numberOf : List ℕ → NumberFound
-numberOf [] = Nothing
-numberOf (b ∷ w) = numberFrom 0 (b ∷ w)
 
 -- a number as a TTL: a body is expired at this age
 abbrev pub ttlAfter : NumberFound → TtlFound

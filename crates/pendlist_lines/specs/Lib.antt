@@ -1,6 +1,4 @@
 pub mod Grammar
 pub mod Input
-pub mod Starts
 pub mod Body
-pub mod Digits
 pub mod Tests

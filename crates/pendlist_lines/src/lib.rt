@@ -1,7 +1,6 @@
 // One input line of the program `pendlist`, and the bodies that it offers (document 01, "Cases").
 mod body;
 mod input;
-mod words;
 
 pub use body::fill_body;
 pub use input::line_end;
@@ -11,10 +10,10 @@ ghost use Rattle.pendlist_lines.specs.Grammar.{wordsOf, wordAt, ttlOf, o
 ghost use Rattle.pendlist_lines.specs.Grammar.{fromWords, lineOf, inOrder};
 use config::PendingFlowsConfig;
 use config::Ttl;
-use words::NumberFound;
-use words::count_blanks;
-use words::number_at;
-use words::word_is;
+use pendlist_words::NumberFound;
+use pendlist_words::count_blanks;
+use pendlist_words::number_at;
+use pendlist_words::word_is;
 
 // `o id length clock`: a body of that length is offered to the template.
 pub struct OfferLine {

@@ -8,10 +8,7 @@ use config::config_number;
 use pending_calls::ClearAnswer;
 use pending_calls::clear;
 use pending_drain::DrainAnswer;
-use pending_drain::PutBackAnswer;
-use pending_drain::PutBackRefusal;
 use pending_drain::drain;
-use pending_drain::restore_replay_suffix;
 use pending_flows::AcceptAnswer;
 use pending_flows::PlaceAnswer;
 use pending_flows::PlaceRefusal;
@@ -24,6 +21,9 @@ use pending_offer::OfferRefusal;
 use pending_offer::cache;
 use pending_resize::ResizeAnswer;
 use pending_resize::resize;
+use pending_restore::PutBackAnswer;
+use pending_restore::PutBackRefusal;
+use pending_restore::restore_replay_suffix;
 
 // An answer.
 pub struct Answered {

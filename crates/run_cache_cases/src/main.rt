@@ -8,10 +8,7 @@ use libc::STDOUT_FILENO;
 use pending_calls::ClearAnswer;
 use pending_calls::clear;
 use pending_drain::DrainAnswer;
-use pending_drain::PutBackAnswer;
-use pending_drain::PutBackRefusal;
 use pending_drain::drain;
-use pending_drain::restore_replay_suffix;
 use pending_flows::AcceptAnswer;
 use pending_flows::FiguresAnswer;
 use pending_flows::open;
@@ -23,6 +20,9 @@ use pending_offer::OfferRefusal;
 use pending_offer::cache;
 use pending_resize::ResizeAnswer;
 use pending_resize::resize;
+use pending_restore::PutBackAnswer;
+use pending_restore::PutBackRefusal;
+use pending_restore::restore_replay_suffix;
 
 // Prints a blank and a number.
 fn print_value(n: u64) {

@@ -1,3 +1,0 @@
-pub mod Budget
-pub mod Framing
-pub mod Cache

@@ -1,0 +1,4 @@
+pub mod RestoredRows
+pub mod Restored
+pub mod Chances
+pub mod Restores

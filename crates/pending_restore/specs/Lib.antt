@@ -1,0 +1,2 @@
+pub mod Restoring
+pub mod Promises

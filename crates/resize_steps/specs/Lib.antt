@@ -1,0 +1,3 @@
+pub mod Removing
+pub mod Cut
+pub mod Fit
