@@ -1,46 +1,46 @@
--- The lines of a text, one after the other. Assumes nothing.
+-- The lines of a text, one after the other, and their rows. Assumes nothing.
 use mathlib.Core.Path.{_≡_, refl, sym, ap, _∙_}
 use mathlib.Core.Bool.{Bool, true, false, cond}
-use mathlib.Core.List.{List, [], _∷_}
-use Prim.Native.Nat.{ℕ, _+_, _-_, _≤_, _<_}
+use mathlib.Core.List.{List, [], _∷_, _++_, append-assoc, append-nil}
+use Prim.Native.Nat.{ℕ, _+_, _*_, _-_, _≤_, _<_}
 use native.Mathlib.Omega.{arith}
-use lib.ListN.{length, take, drop, length-take, length-drop, drop-of-length-le}
-use lib.Seq.{length-take-le, take-all, drop-drop}
-use Rattle.pendlist_lines.specs.Input.{linesOf, firstLine, wholeLines}
-use Rattle.pendlist_lines.proofs.Ends.{first-of-lines, first-is-front, first-within, whole-within}
+use lib.ListN.{length, take, drop, length-drop, drop-of-length-le}
+use lib.Seq.{take-all, drop-drop}
+use Rattle.pendlist_lines.specs.Input.{linesOf, firstLine}
+use Rattle.pendlist_lines.proofs.Ends.{first-of-lines, first-is-front}
 use Rattle.pending_flows.specs.View.{Areas, view}
-use Rattle.pendlist_run.specs.declared.calls.Outcome.{Outcome}
-use Rattle.pendlist_run.specs.declared.LineDone.{LineDone}
-use Rattle.pendlist_run.specs.Steps.{Step, RunsLine}
-use Rattle.pendlist_run.specs.Lists.{isBad, ListState, lineStep, afterLines, RunsAt, RunsText}
+use Rattle.pendlist_rows.specs.declared.Outcome.{Outcome}
+use Rattle.pendlist_rows.specs.Text.{outcomeText, Puts}
+use Rattle.pendlist_calls.specs.Steps.{Step, RunsLine}
+use Rattle.pendlist_run.specs.declared.texts.LineDone.{LineDone}
+use Rattle.pendlist_run.specs.Lists.{isBad, ListState, lineStep, afterLines, rowsOf, afterText, rowsOfText}
+use Rattle.pendlist_run.specs.Lists.{RunsAt, RunsText}
 
--- From `at` on the list goes as the whole does from its front; the areas keep their lengths.
-pub record ListAhead (text : List ℕ) (opened₀ : Bool) (a₀ : Areas) (at : ℕ) (opened : Bool) (a : Areas)
-    : Type 0 where
-  pub ahead : afterLines (length (a₀ .bytes)) (length (a₀ .words)) (linesOf text) opened₀ (view a₀)
+-- From `at` on the list goes as the whole does from its front, and its rows follow those that are there.
+pub record ListAhead (text : List ℕ) (opened₀ : Bool) (a₀ : Areas) (out₀ : List ℕ) (at filled : ℕ) (opened : Bool)
+    (a : Areas) (out : List ℕ) : Type 0 where
+  pub ahead : afterText opened₀ text a₀
       ≡ afterLines (length (a₀ .bytes)) (length (a₀ .words)) (linesOf (drop at text)) opened (view a)
+  pub rows : rowsOfText opened₀ text a₀
+      ≡ take filled out ++ rowsOf (length (a₀ .bytes)) (length (a₀ .words)) (linesOf (drop at text)) opened (view a)
+  -- at most 107 bytes for each byte passed, and for each of the text
+  pub few : filled ≤ 107 * at
+  pub short : filled ≤ 107 * length text
   pub words-long : length (a .words) ≡ length (a₀ .words)
   pub bytes-long : length (a .bytes) ≡ length (a₀ .bytes)
+  pub out-long : length out ≡ length out₀
 
-pub list-begins : (text : List ℕ) (opened : Bool) (a : Areas) → ListAhead text opened a 0 opened a
-list-begins text opened a = record { ahead = refl; words-long = refl; bytes-long = refl }
-
--- the first line of a text lies within it, and so does the place behind it
-pub line-counted : (s : List ℕ) {end : ℕ} → end ≡ length (firstLine s) → end ≡ length (take end s)
-line-counted s {end} e = sym (length-take-le end s (rw e (first-within s)))
-
-pub line-within : (text : List ℕ) (at : ℕ) {end : ℕ} → at ≤ length text →
-    end ≡ length (firstLine (take (length text - at) (drop at text))) → at + end ≤ length text
-line-within text at {end} h e =
-    omega (
-      arith,
-      first-within (take (length text - at) (drop at text)),
-      length-drop at text,
-      length-take (length text - at) (drop at text),
-    )
-
-pub whole-among : (n : ℕ) (s : List ℕ) {r : ℕ} → r ≡ wholeLines (take n s) → r ≤ n
-whole-among n s e = omega (arith, whole-within (take n s), length-take n s)
+pub list-begins : (text : List ℕ) (opened : Bool) (a : Areas) (out : List ℕ) →
+    ListAhead text opened a out 0 0 opened a out
+list-begins text opened a out = record {
+  ahead = refl;
+  rows = refl;
+  few = omega arith;
+  short = omega arith;
+  words-long = refl;
+  bytes-long = refl;
+  out-long = refl;
+}
 
 -- the line that the code lends is the first of the rest
 pub line-lent : (opened : Bool) (text : List ℕ) (at end : ℕ) {a a′ : Areas} {r : Outcome} →
@@ -54,22 +54,30 @@ line-lent opened text at end e done =
     let front : take end (drop at text) ≡ firstLine (drop at text) = rw ends (first-is-front (drop at text)) in
     record { next = ap (λ (n : ℕ). at + n + 1) ends; runs = rw (whole, front) at done }
 
-module _ {text : List ℕ} {opened₀ opened : Bool} {a₀ a : Areas} {at : ℕ}
-    (inv : ListAhead text opened₀ a₀ at opened a) where
-  pub list-over : length text ≤ at → RunsText opened₀ text a₀ (record { opened = opened; bad = false }) a
-  unfolding afterLines linesOf
+module _ {text : List ℕ} {opened₀ opened : Bool} {a₀ a : Areas} {out₀ out : List ℕ} {at filled : ℕ}
+    (inv : ListAhead text opened₀ a₀ out₀ at filled opened a out) where
+  -- there is room for a row
+  pub row-fits : 107 * length text ≤ length out₀ → at < length text → filled + 107 ≤ length out
+  row-fits room h = omega (arith, inv .few, inv .out-long)
+
+  pub list-over : length text ≤ at →
+      RunsText opened₀ text a₀ (record { opened = opened; bad = false; filled = filled }) a out
+  unfolding afterLines rowsOf linesOf
   list-over h =
       let none : drop at text ≡ [] = drop-of-length-le text h in
-      let all : afterLines (length (a₀ .bytes)) (length (a₀ .words)) (linesOf text) opened₀ (view a₀)
-      ≡ record { opened = opened; bad = false; holds = view a } = inv .ahead ∙ rw none in
+      let all : afterText opened₀ text a₀ ≡ record { opened = opened; bad = false; holds = view a } =
+      inv .ahead ∙ rw none in
       record {
         open-after = sym (ap (λ (k : ListState). k .opened) all);
         bad-after = sym (ap (λ (k : ListState). k .bad) all);
         holds = sym (ap (λ (k : ListState). k .holds) all);
+        rows = sym (inv .rows ∙ rw none (append-nil (take filled out)));
+        short = inv .short;
       }
 
   -- the line at this place, and the others
-  module _ {r : LineDone} {a′ : Areas} (h : at < length text) (done : RunsAt opened text at a r a′) where
+  module _ {r : LineDone} {a′ : Areas} (h : at < length text) (done : RunsAt opened text at a r a′) {filled′ : ℕ}
+      {out′ : List ℕ} (put : Puts (outcomeText (r .outcome)) 107 filled out filled′ out′) where
     lines-ahead : linesOf (drop at text) ≡ firstLine (drop at text) ∷ linesOf (drop (r .next) text)
     lines-ahead =
         let n : at + (length (firstLine (drop at text)) + 1) ≡ r .next = omega (arith, done .next) in
@@ -87,28 +95,40 @@ module _ {text : List ℕ} {opened₀ opened : Bool} {a₀ a : Areas} {at : ℕ}
     unfolding step
     holds-right = done .runs .holds ∙ rw (inv .bytes-long, inv .words-long)
 
+    -- its row follows those that are there
+    rows-with : (more : List ℕ) → take filled out ++ (outcomeText (step .outcome) ++ more) ≡ take filled′ out′ ++ more
+    rows-with more =
+        let follows : take filled′ out′ ≡ take filled out ++ outcomeText (step .outcome) =
+        rw (← outcome-right) (put .follows) in
+        rw (follows, append-assoc)
+
     pub list-goes-on : {bad : Bool} → length (a′ .words) ≡ length (a .words) →
-        length (a′ .bytes) ≡ length (a .bytes) → bad ≡ isBad (r .outcome) → bad ≡ false →
-        ListAhead text opened₀ a₀ (r .next) true a′
-    unfolding afterLines step
-    list-goes-on {bad} w b tested e =
+        length (a′ .bytes) ≡ length (a .bytes) → length out′ ≡ length out → bad ≡ isBad (r .outcome) → bad ≡ false →
+        ListAhead text opened₀ a₀ out₀ (r .next) filled′ true a′ out′
+    unfolding afterLines rowsOf step
+    list-goes-on {bad} w b o tested e =
         let good : isBad (step .outcome) ≡ false = rw (← outcome-right) (sym tested ∙ e) in
         record {
           ahead = inv .ahead ∙ rw (lines-ahead, good, holds-right);
+          rows = inv .rows ∙ rw (lines-ahead, good, holds-right) (rows-with _);
+          few = omega (arith, put .short, done .next, inv .few);
+          short = omega (arith, put .short, inv .few);
           words-long = w ∙ inv .words-long;
           bytes-long = b ∙ inv .bytes-long;
+          out-long = o ∙ inv .out-long;
         }
 
     pub list-ends : {bad : Bool} → bad ≡ isBad (r .outcome) → bad ≡ true →
-        RunsText opened₀ text a₀ (record { opened = opened; bad = true }) a′
-    unfolding afterLines step
+        RunsText opened₀ text a₀ (record { opened = opened; bad = true; filled = filled′ }) a′ out′
+    unfolding afterLines rowsOf step
     list-ends {bad} tested e =
         let ends : isBad (step .outcome) ≡ true = rw (← outcome-right) (sym tested ∙ e) in
-        let all : afterLines (length (a₀ .bytes)) (length (a₀ .words)) (linesOf text) opened₀ (view a₀)
-        ≡ record { opened = opened; bad = true; holds = step .holds } =
+        let all : afterText opened₀ text a₀ ≡ record { opened = opened; bad = true; holds = step .holds } =
         inv .ahead ∙ rw (lines-ahead, ends) in
         record {
           open-after = sym (ap (λ (k : ListState). k .opened) all);
           bad-after = sym (ap (λ (k : ListState). k .bad) all);
           holds = holds-right ∙ sym (ap (λ (k : ListState). k .holds) all);
+          rows = sym (inv .rows ∙ rw (lines-ahead, ends) (rows-with [] ∙ append-nil (take filled′ out′)));
+          short = omega (arith, put .short, inv .few);
         }

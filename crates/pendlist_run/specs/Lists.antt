@@ -3,19 +3,18 @@ use mathlib.Core.Path.{_≡_}
 use mathlib.Core.Bool.{Bool, true, false, cond}
 use mathlib.Core.List.{List, [], _∷_, _++_}
 use mathlib.Core.Option.{Option}
-use Prim.Native.Nat.{ℕ, _+_}
-use lib.ListN.{length, drop}
+use Prim.Native.Nat.{ℕ, _+_, _*_, _≤_}
+use lib.ListN.{length, take, drop}
 use Rattle.pendlist_lines.specs.Grammar.{lineOf, inOrder}
 use Rattle.pendlist_lines.specs.Input.{linesOf, firstLine}
 use Rattle.cache_model.specs.Cache.{Cache}
 use Rattle.pending_flows.specs.View.{Areas, view}
-use Rattle.pendlist_run.specs.declared.calls.Row.{Row}
-use Rattle.pendlist_run.specs.declared.calls.Outcome.{Outcome}
-use Rattle.pendlist_run.specs.declared.calls.Outcome.the-variants.{Opened, Told, Bad}
-use Rattle.pendlist_run.specs.declared.LineDone.{LineDone}
-use Rattle.pendlist_run.specs.declared.Progress.{Progress}
-use Rattle.pendlist_run.specs.Steps.{Step, stepOf, RunsLine}
-use Rattle.pendlist_run.specs.Text.{outcomeText}
+use Rattle.pendlist_rows.specs.declared.Outcome.{Outcome}
+use Rattle.pendlist_rows.specs.declared.Outcome.the-variants.{Opened, Told, Bad}
+use Rattle.pendlist_rows.specs.Text.{outcomeText}
+use Rattle.pendlist_calls.specs.Steps.{Step, stepOf, RunsLine}
+use Rattle.pendlist_run.specs.declared.texts.LineDone.{LineDone}
+use Rattle.pendlist_run.specs.declared.texts.TextDone.{TextDone}
 
 abbrev pub isBad : Outcome → Bool
 isBad Opened = false
@@ -53,12 +52,18 @@ pub record RunsAt (opened : Bool) (text : List ℕ) (at : ℕ) (a : Areas) (r : 
   pub next : r .next ≡ at + length (firstLine (drop at text)) + 1
   pub runs : RunsLine opened (firstLine (drop at text)) a (r .outcome) a′
 
--- the same, in these areas
+-- the same of the lines of a text, in these areas
 abbrev pub afterText : Bool → List ℕ → Areas → ListState
 afterText opened text a = afterLines (length (a .bytes)) (length (a .words)) (linesOf text) opened (view a)
 
--- Carrying out the lines of a text.
-pub record RunsText (opened : Bool) (text : List ℕ) (a : Areas) (r : Progress) (a′ : Areas) : Type 0 where
+abbrev pub rowsOfText : Bool → List ℕ → Areas → List ℕ
+rowsOfText opened text a = rowsOf (length (a .bytes)) (length (a .words)) (linesOf text) opened (view a)
+
+-- Carrying out the lines of a text: their rows stand at the front of the room for them.
+pub record RunsText (opened : Bool) (text : List ℕ) (a : Areas) (r : TextDone) (a′ : Areas) (out′ : List ℕ)
+    : Type 0 where
   pub open-after : r .opened ≡ afterText opened text a .opened
   pub bad-after : r .bad ≡ afterText opened text a .bad
   pub holds : view a′ ≡ afterText opened text a .holds
+  pub rows : take (r .filled) out′ ≡ rowsOfText opened text a
+  pub short : r .filled ≤ 107 * length text

@@ -18,8 +18,8 @@ use Rattle.cache_model.specs.Offer.{steps2to5, refusedSize, settled, offered}
 use Rattle.cache_model.specs.Calls.{drained}
 use Rattle.cache_model.specs.Queries.{figures}
 use Rattle.cache_model.specs.Reply.{opening}
-use Rattle.pendlist_run.specs.Steps.{rowAfter, stepOf}
-use Rattle.pendlist_run.specs.Text.{placesFrom, decimalOf, numbersText}
+use Rattle.pendlist_calls.specs.Steps.{rowAfter, stepOf}
+use Rattle.pendlist_rows.specs.Text.{placesFrom, decimalOf, numbersText}
 use Rattle.pendlist_run.specs.Lists.{rowsOf}
 
 -- what is written of an input behind the header, in the program's areas, which hold no cache at first
