@@ -18,7 +18,7 @@ use Rattle.pending_flows.specs.View.{Areas, view}
 use Rattle.pendlist_rows.specs.Text.{outcomeText}
 use Rattle.pendlist_calls.specs.Steps.{Step, stepOf}
 use Rattle.pendlist_run.specs.declared.program.Ended.the-variants as Ends
-use Rattle.pendlist_run.specs.Lists.{isBad, ListState, lineStep, afterLines, rowsOf, afterText}
+use Rattle.pendlist_texts.specs.Lists.{isBad, ListState, lineStep, afterLines, rowsOf, afterText}
 use Rattle.pendlist_run.specs.Turns.{readyOf, Standing, begun, with-turn, turnOf, nextTurn, turnsOf}
 use Rattle.pendlist_run.specs.Turns.{inputTurns, joined}
 use Rattle.pendlist_run.specs.Program.{turnsIn, RunsInput}
@@ -241,7 +241,9 @@ module _ (bytes words : ℕ) where
     module _ (ended : inputTurns bytes words false reads v .after .bad ≡ true) (rest : List ℕ) where
       bad-carried : so-far (inputTurns bytes words false reads v) ≡ carried (linesOf (joined reads ++ rest)) false v
       unfolding inputTurns ahead so-far more behind carried
-      bad-carried = sym (no-more (so-far (turnsOf bytes words reads (begun v))) _ ended) ∙ turns-ahead reads (begun v) rest
+      bad-carried =
+          sym (no-more (so-far (turnsOf bytes words reads (begun v))) _ ended)
+          ∙ turns-ahead reads (begun v) rest
 
       pub rows-to-bad :
           inputTurns bytes words false reads v .rows ≡ rowsOf bytes words (linesOf (joined reads ++ rest)) false v

@@ -11,7 +11,7 @@ use borrow.Author.Tests.{eq-eqb, ne-eqb, eqb-true}
 use Rattle.pending_flows.specs.View.{Areas, areasOf, view}
 use Rattle.pendlist_run.specs.declared.turns.Turn.{Turn}
 use Rattle.pendlist_run.specs.declared.program.Ended.the-variants.{Input, Bad, Write, Reads}
-use Rattle.pendlist_run.specs.Lists.{ListState}
+use Rattle.pendlist_texts.specs.Lists.{ListState}
 use Rattle.pendlist_run.specs.Turns.{Standing, begun, with-turn, nextTurn, turnsOf, inputTurns}
 use Rattle.pendlist_run.specs.Turns.{turnIn, TakesTurn}
 use Rattle.pendlist_run.specs.Program.{ReadsBehind, turnsIn, RunsInput, RunsProgram}

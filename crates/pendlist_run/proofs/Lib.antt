@@ -1,4 +1,3 @@
-pub mod Lists
 pub mod OneTurn
 pub mod Inputs
 pub mod Cuts

@@ -10,8 +10,8 @@ use borrow.Author.Tests.{eq-eqb, ne-eqb, le-leb, lt-leb}
 use Rattle.areas.specs.Overwrite.{moved}
 use Rattle.pendlist_lines.specs.Input.{wholeLines}
 use Rattle.pending_flows.specs.View.{Areas}
-use Rattle.pendlist_run.specs.declared.texts.TextDone.{TextDone}
-use Rattle.pendlist_run.specs.Lists.{RunsText}
+use Rattle.pendlist_texts.specs.declared.TextDone.{TextDone}
+use Rattle.pendlist_texts.specs.Lists.{RunsText}
 use Rattle.pendlist_run.specs.Turns.{readyOf, turnOf, Ready, TakesTurn}
 
 -- What is ready of the buffer's first n bytes.

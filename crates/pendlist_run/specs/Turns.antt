@@ -12,11 +12,11 @@ use Rattle.pendlist_lines.specs.Input.{linesOf, wholeLines}
 use Rattle.cache_model.specs.Cache.{Cache}
 use Rattle.pending_flows.specs.View.{Areas, view}
 use Rattle.pendlist_run.specs.declared.turns.Turn.{Turn}
-use Rattle.pendlist_run.specs.Lists.{ListState, afterLines, rowsOf}
+use Rattle.pendlist_texts.specs.Lists.{ListState, afterLines, rowsOf}
 
--- How many of the bytes that are there are carried out: the whole lines; all of them at the end of the input, since a
--- last line needs no newline, and where what follows the whole lines is too long for a line: it is malformed however it
--- goes on.
+-- How many of the bytes that are there are carried out: the whole lines. All of them at the end of the input, since a
+-- last line needs no newline; all of them too where what follows the whole lines is too long for a line, since it is
+-- malformed however it goes on.
 unfoldable pub readyOf : (last : Bool) → List ℕ → ℕ
 readyOf last there =
     cond last (length there)

@@ -4,13 +4,13 @@ ghost use Prim.Native.Nat.{_≤_};
 ghost use lib.ListN.{length, take};
 ghost use Rattle.pendlist_lines.specs.Input.{wholeLines};
 ghost use Rattle.pending_flows.specs.View.{areasOf};
-ghost use Rattle.pendlist_run.specs.Lists.{RunsText};
+ghost use Rattle.pendlist_texts.specs.Lists.{RunsText};
 ghost use Rattle.pendlist_run.specs.Turns.{Ready, TakesTurn};
-use super::texts::TextDone;
-use super::texts::run_text;
 use areas::move_bytes;
 use pendlist_lines::MAX_LINE;
 use pendlist_lines::whole_lines;
+use pendlist_texts::TextDone;
+use pendlist_texts::run_text;
 
 // What a turn leaves.
 pub struct Turn {

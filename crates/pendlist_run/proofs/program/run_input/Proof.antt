@@ -1,7 +1,8 @@
 use mathlib.Core.Path.{_≡_}
 use lib.ListN.{length}
 use Rattle.pending_flows.specs.View.{areasOf}
-use Rattle.pendlist_run.proofs.Inputs.{InputAhead, input-begins, write-failed, list-bad, input-over, input-goes-on, reads-over}
+use Rattle.pendlist_run.proofs.Inputs.{InputAhead, input-begins, write-failed, list-bad, input-over}
+use Rattle.pendlist_run.proofs.Inputs.{input-goes-on, reads-over}
 use borrow.Author.Needs.{needs}
 use Rattle.pendlist_run.proofs.program.run_input.Statement.{statement}
 use Rattle.pendlist_run.proofs.program.run_input.Tie as tie

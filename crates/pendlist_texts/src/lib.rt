@@ -1,9 +1,9 @@
-// The lines of a text, carried out one after the other, and their rows.
+// The lines of a text of `pendlist`, carried out one after the other, and their rows (document 01, "Cases").
 ghost use mathlib.Core.Path.{_≡_};
 ghost use Prim.Native.Nat.{_*_, _≤_};
 ghost use lib.ListN.{length};
 ghost use Rattle.pending_flows.specs.View.{areasOf};
-ghost use Rattle.pendlist_run.specs.Lists.{isBad, RunsAt, RunsText};
+ghost use Rattle.pendlist_texts.specs.Lists.{isBad, RunsAt, RunsText};
 use pendlist_calls::run_line;
 use pendlist_lines::line_end;
 use pendlist_rows::Outcome;

@@ -2,10 +2,10 @@ use Prim.Native.Nat.{_+_, _≤_}
 use native.Mathlib.Omega.{arith}
 use lib.ListN.{length}
 use Rattle.pendlist_lines.proofs.Ends.{line-counted, line-within}
-use Rattle.pendlist_run.proofs.Lists.{line-lent}
+use Rattle.pendlist_texts.proofs.Lists.{line-lent}
 use borrow.Author.Needs.{needs}
-use Rattle.pendlist_run.proofs.texts.run_at.Statement.{statement}
-use Rattle.pendlist_run.proofs.texts.run_at.Tie as tie
+use Rattle.pendlist_texts.proofs.run_at.Statement.{statement}
+use Rattle.pendlist_texts.proofs.run_at.Tie as tie
 
 within : (c : tie.After-line-end) →
     c .before .before .before .before .before .args .at + c .line-end .result

@@ -1,10 +1,10 @@
 use Prim.Native.Nat.{_-_}
 use lib.ListN.{length}
 use Rattle.pending_flows.specs.View.{areasOf}
-use Rattle.pendlist_run.proofs.Lists.{ListAhead, list-begins, row-fits, list-goes-on, list-ends, list-over}
+use Rattle.pendlist_texts.proofs.Lists.{ListAhead, list-begins, row-fits, list-goes-on, list-ends, list-over}
 use borrow.Author.Needs.{needs}
-use Rattle.pendlist_run.proofs.texts.run_text.Statement.{statement}
-use Rattle.pendlist_run.proofs.texts.run_text.Tie as tie
+use Rattle.pendlist_texts.proofs.run_text.Statement.{statement}
+use Rattle.pendlist_texts.proofs.run_text.Tie as tie
 
 abbrev Inv-loop : tie.InvT-loop
 Inv-loop words₀ bytes₀ text opened out₀ opened₀ filled₀ at₀ words bytes out opened' filled at =

@@ -13,8 +13,8 @@ use Rattle.pendlist_rows.specs.declared.Outcome.{Outcome}
 use Rattle.pendlist_rows.specs.declared.Outcome.the-variants.{Opened, Told, Bad}
 use Rattle.pendlist_rows.specs.Text.{outcomeText}
 use Rattle.pendlist_calls.specs.Steps.{Step, stepOf, RunsLine}
-use Rattle.pendlist_run.specs.declared.texts.LineDone.{LineDone}
-use Rattle.pendlist_run.specs.declared.texts.TextDone.{TextDone}
+use Rattle.pendlist_texts.specs.declared.LineDone.{LineDone}
+use Rattle.pendlist_texts.specs.declared.TextDone.{TextDone}
 
 abbrev pub isBad : Outcome → Bool
 isBad Opened = false

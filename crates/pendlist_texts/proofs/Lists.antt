@@ -12,9 +12,9 @@ use Rattle.pending_flows.specs.View.{Areas, view}
 use Rattle.pendlist_rows.specs.declared.Outcome.{Outcome}
 use Rattle.pendlist_rows.specs.Text.{outcomeText, Puts}
 use Rattle.pendlist_calls.specs.Steps.{Step, RunsLine}
-use Rattle.pendlist_run.specs.declared.texts.LineDone.{LineDone}
-use Rattle.pendlist_run.specs.Lists.{isBad, ListState, lineStep, afterLines, rowsOf, afterText, rowsOfText}
-use Rattle.pendlist_run.specs.Lists.{RunsAt, RunsText}
+use Rattle.pendlist_texts.specs.declared.LineDone.{LineDone}
+use Rattle.pendlist_texts.specs.Lists.{isBad, ListState, lineStep, afterLines, rowsOf, afterText, rowsOfText}
+use Rattle.pendlist_texts.specs.Lists.{RunsAt, RunsText}
 
 -- From `at` on the list goes as the whole does from its front, and its rows follow those that are there.
 pub record ListAhead (text : List ℕ) (opened₀ : Bool) (a₀ : Areas) (out₀ : List ℕ) (at filled : ℕ) (opened : Bool)
