@@ -5,7 +5,7 @@ use mathlib.Core.List.{List, [], _∷_, _++_}
 use Prim.Native.Nat.{ℕ, suc, _+_, _-_, _≤_, _<_}
 use native.Mathlib.Numerals.{add-one}
 use native.Mathlib.Omega.{arith}
-use lib.ListN.{length, getD, take, drop, drop-of-length-le}
+use lib.ListN.{length, getD, take, drop, length-take, length-drop, drop-of-length-le}
 use lib.Seq.{drop-cons, take-suc, take-length, length-take-le}
 use lib.Dec.{eqb}
 use borrow.Author.Tests.{eq-eqb, ne-eqb, eqb-true, eqb-false}
@@ -152,3 +152,20 @@ whole-within (b ∷ s) = by-test (eqb (wholeLines s) 0) (eqb b 10) (whole-within
     by-test true true h = omega arith
     by-test true false h = omega arith
     by-test false q h = omega arith
+
+-- The first line of a part of a text lies within it, and so do the whole lines of its front.
+pub line-counted : (s : List ℕ) {end : ℕ} → end ≡ length (firstLine s) → end ≡ length (take end s)
+line-counted s {end} e = sym (length-take-le end s (rw e (first-within s)))
+
+pub line-within : (text : List ℕ) (at : ℕ) {end : ℕ} → at ≤ length text →
+    end ≡ length (firstLine (take (length text - at) (drop at text))) → at + end ≤ length text
+line-within text at {end} h e =
+    omega (
+      arith,
+      first-within (take (length text - at) (drop at text)),
+      length-drop at text,
+      length-take (length text - at) (drop at text),
+    )
+
+pub whole-among : (n : ℕ) (s : List ℕ) {r : ℕ} → r ≡ wholeLines (take n s) → r ≤ n
+whole-among n s e = omega (arith, whole-within (take n s), length-take n s)

@@ -1,3 +1,4 @@
 pub mod Ends
+pub mod Cuts
 pub mod Lines
 pub mod Ramp

@@ -1,3 +1,3 @@
-pub mod Stepping
-pub mod Texts
-pub mod Lists
+pub mod OneTurn
+pub mod Inputs
+pub mod Cuts

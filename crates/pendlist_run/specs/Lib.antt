@@ -1,4 +1,3 @@
-pub mod Steps
-pub mod Text
-pub mod Lists
+pub mod Turns
+pub mod Program
 pub mod Tests

@@ -4,8 +4,8 @@ use config::Ttl;
 use pendlist_lines::DrainLine;
 use pendlist_lines::Line;
 use pendlist_lines::OfferLine;
-use pendlist_run::Outcome;
-use pendlist_run::Row;
+use pendlist_rows::Outcome;
+use pendlist_rows::Row;
 use recorded::next_number;
 
 // A text's first numbers.

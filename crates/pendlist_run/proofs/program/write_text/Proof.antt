@@ -1,0 +1,16 @@
+use lib.Seq.{length-take-le}
+use borrow.Author.Needs.{needs}
+use Rattle.pendlist_run.proofs.program.write_text.Statement.{statement}
+use Rattle.pendlist_run.proofs.program.write_text.Tie as tie
+
+slice-aggregate-write-all : tie.Need-slice-aggregate-write-all
+slice-aggregate-write-all c = search (length-take-le, needs)
+
+write-all-requires : tie.Need-write-all-requires
+write-all-requires c κs = search needs
+
+returns : tie.Need-returns
+returns c = search needs
+
+pub write-text-spec : {M : Type 1} → statement M
+write-text-spec = tie.close (tie.spec slice-aggregate-write-all write-all-requires returns)

@@ -1,0 +1,94 @@
+// A turn: what is done with the bytes that a read brought.
+ghost use mathlib.Core.Path.{_≡_};
+ghost use Prim.Native.Nat.{_≤_};
+ghost use lib.ListN.{length, take};
+ghost use Rattle.pendlist_lines.specs.Input.{wholeLines};
+ghost use Rattle.pending_flows.specs.View.{areasOf};
+ghost use Rattle.pendlist_texts.specs.Lists.{RunsText};
+ghost use Rattle.pendlist_run.specs.Turns.{Ready, TakesTurn};
+use areas::move_bytes;
+use pendlist_lines::MAX_LINE;
+use pendlist_lines::whole_lines;
+use pendlist_texts::TextDone;
+use pendlist_texts::run_text;
+
+// What a turn leaves.
+pub struct Turn {
+    // the bytes at the buffer's front: a line that may go on
+    pub kept: usize,
+    // whether a cache is open
+    pub opened: bool,
+    // whether the list ended with `bad`
+    pub bad: bool,
+    // the bytes of the rows
+    pub filled: usize,
+}
+
+// How many of the buffer's first n bytes are whole lines.
+fn lines_among(buffer: &[u8], n: usize) -> usize
+    requires { ⌜ n ≤ length (now buffer) ⌝ }
+    ensures { λ r. ⌜ (r ≡ wholeLines (take n (now (buffer .entry)))) × (r ≤ n) ⌝ }
+{
+    whole_lines(&buffer[..n])
+}
+
+// How many of the buffer's first n bytes are carried out, where `kept` of them were there before: the whole lines; all
+// where no byte has come, since the input has ended, or where what follows the whole lines is too long for a line.
+fn bytes_ready(buffer: &[u8], kept: usize, n: usize) -> usize
+    requires { ⌜ n ≤ length (now buffer) ⌝ }
+    ensures { λ r. ⌜ Ready (now (buffer .entry)) kept n r ⌝ }
+{
+    if n == kept {
+        return n;
+    }
+    let lines = lines_among(buffer, n);
+    if MAX_LINE < n - lines {
+        return n;
+    }
+    lines
+}
+
+// Carries out the lines among the buffer's first n bytes.
+fn run_front(
+    words: &mut [u64],
+    bytes: &mut [u8],
+    buffer: &[u8],
+    n: usize,
+    opened: bool,
+    out: &mut [u8],
+) -> TextDone
+    requires { ⌜ (n ≤ length (now buffer)) × (n ≤ 4096) × (length (now out) ≡ 438272) ⌝ }
+    ensures { λ r.
+        ⌜ RunsText opened (take n (now (buffer .entry))) (areasOf (now (words .entry)) (now (bytes .entry))) r
+        (areasOf (now (words .exit)) (now (bytes .exit))) (now (out .exit)) ⌝ }
+{
+    run_text(words, bytes, &buffer[..n], opened, out)
+}
+
+// Carries out what is ready of the buffer's first n bytes, of which `kept` were there before, puts the rows into `out`
+// from its front, and brings the bytes that are left to the buffer's front.
+pub fn take_turn(
+    words: &mut [u64],
+    bytes: &mut [u8],
+    buffer: &mut [u8],
+    kept: usize,
+    n: usize,
+    opened: bool,
+    out: &mut [u8],
+) -> Turn
+    requires { ⌜ (n ≤ length (now buffer)) × (length (now buffer) ≡ 4096) × (length (now out) ≡ 438272) ⌝ }
+    ensures { λ r.
+        ⌜ TakesTurn (now (buffer .entry)) kept n opened (areasOf (now (words .entry)) (now (bytes .entry))) r
+        (areasOf (now (words .exit)) (now (bytes .exit))) (now (buffer .exit)) (now (out .exit)) ⌝ }
+{
+    let ready = bytes_ready(buffer, kept, n);
+    let done = run_front(words, bytes, buffer, ready, opened, out);
+    let left = n - ready;
+    move_bytes(buffer, ready, 0, left);
+    Turn {
+        kept: left,
+        opened: done.opened,
+        bad: done.bad,
+        filled: done.filled,
+    }
+}
