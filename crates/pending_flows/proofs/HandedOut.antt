@@ -3,26 +3,29 @@ use mathlib.Core.Path.{_≡_, refl, ap, sym, _∙_}
 use mathlib.Core.Bool.{Bool, true, false, cond}
 use mathlib.Core.List.{List, [], _∷_}
 use mathlib.Core.Option.{Option, none, some}
-use Prim.Native.Nat.{ℕ, _+_, _*_, _-_, _≤_}
-use native.Mathlib.Nat.{pos-of-ne-zero}
+use Prim.Native.Nat.{ℕ, _+_, _-_, _≤_, _<_}
 use native.Mathlib.Omega.{arith}
 use lib.Dec.{eqb, ltb}
 use lib.ListN.{length, take, drop, length-drop}
 use lib.Seq.{length-take-le}
 use borrow.Author.Tests.{lt-ltb, le-ltb}
-use Rattle.config.specs.declared.PendingFlowsConfig.{PendingFlowsConfig}
-use Rattle.config.specs.Limits.{recordWords}
 use Rattle.config.proofs.Lists.{All}
 use Rattle.table.specs.declared.Entry.{Entry}
 use Rattle.table.specs.declared.TemplateRecord.{TemplateRecord}
 use Rattle.table.specs.declared.EntryFound.{EntryFound}
 use Rattle.table.specs.declared.EntryFound.the-variants as Found
-use Rattle.table.specs.Layout.{limitsOf, heldCount, entryCount, chanceCount, entriesAt, recordsAt}
-use Rattle.table.specs.Table.{tableOf, recordAt, entriesFrom, recordsFrom}
+use Rattle.table.specs.declared.Sought.the-variants as Sought
+use Rattle.table.specs.declared.LabelSeen.{LabelSeen}
+use Rattle.table.specs.declared.TableSeen.{TableSeen}
+use Rattle.table.specs.declared.TableSeen.the-variants as Seen
+use Rattle.table.specs.declared.watch.Watch.{Watch}
+use Rattle.table.specs.Layout.{limitsOf}
+use Rattle.table.specs.Table.{tableOf, tally}
 use Rattle.table.specs.WellFormed.{wellFormed}
-use Rattle.table.specs.Reads.{nthOf}
+use Rattle.table.specs.Passes.{firstLabel}
+use Rattle.table.specs.Watch.{isWatched, nthWatched, watchOf, watchFor, seenBy, examined}
 use Rattle.table.proofs.Facts.{Placed, LegalWords, words-say}
-use Rattle.table.proofs.Words.{records-behind}
+use Rattle.table.proofs.Watched.{is-seen}
 use Rattle.cache_model.specs.Bodies.{Body}
 use Rattle.cache_model.specs.Cache.{Cache, number, spans}
 use Rattle.cache_model.specs.Queries.{handedOut, readHandedOut, placeHandedOut}
@@ -31,93 +34,93 @@ use Rattle.pending_flows.specs.declared.handed_out.PlaceRefusal.{PlaceRe
 use Rattle.pending_flows.specs.declared.handed_out.PlaceRefusal.the-variants as Refusal
 use Rattle.pending_flows.specs.declared.handed_out.PlaceAnswer.{PlaceAnswer}
 use Rattle.pending_flows.specs.declared.handed_out.PlaceAnswer.the-variants as Place
-use Rattle.pending_flows.specs.View.{Areas, bodiesAt, cacheOf, areasOf, view}
+use Rattle.pending_flows.specs.View.{Areas, bodiesAt, chanceAt, cacheOf, areasOf, view}
 use Rattle.pending_flows.specs.Queries.{asked}
-use Rattle.pending_flows.specs.HandedOut.{shown, placeNumber, placeAnswer, FindsHandedOut, PlacesHandedOut}
+use Rattle.pending_flows.specs.HandedOut.{shown, placeNumber, placeAnswer, PlacesHandedOut}
 use Rattle.pending_flows.specs.HandedOut.{ReadsHandedOut}
-use Rattle.pending_flows.proofs.Templates.{NthBody, nth-body}
-use Rattle.pending_flows.proofs.Questions.{damaged, answered}
+use Rattle.pending_flows.proofs.Templates.{no-bodies, NthBody, nth-body}
+use Rattle.pending_flows.proofs.Questions.{answered, none-unlabelled, seen-damaged, seen-legal}
 
 -- what holds of every entry holds of one that is found
-found-all : (P : Entry → Type 0) (k n : ℕ) (es : List Entry) (e : Entry) → All P es → nthOf k n es ≡ Found.At e → P e
-unfolding nthOf
-found-all P k n [] e a h = let z : _≡_ {A = ℕ} 0 1 = cc in absurd (omega arith)
-found-all P k n (x ∷ es) e a h = by-label (eqb k (x .label)) h (λ m. found-all P k m es e (a .1))
+found-all : (P : Entry → Type 0) (v : Watch) (n : ℕ) (es : List Entry) (e : Entry) → All P es →
+    nthWatched v n es ≡ Found.At e → P e
+unfolding nthWatched
+found-all P v n [] e a h = let z : _≡_ {A = ℕ} 0 1 = cc in absurd (omega arith)
+found-all P v n (x ∷ es) e a h = by-test (isWatched v x) h (λ m. found-all P v m es e (a .1))
   where
-    by-count : (b : Bool) → cond b (Found.At x) (nthOf k (n - 1) es) ≡ Found.At e →
-        ((m : ℕ) → nthOf k m es ≡ Found.At e → P e) → P e
-    by-count true g later = let same : x ≡ e = cc in rw (← same) (a .0)
-    by-count false g later = later (n - 1) g
+    later : ℕ → EntryFound
+    later m = nthWatched v m es
 
-    by-label : (b : Bool) → cond b (cond (eqb n 0) (Found.At x) (nthOf k (n - 1) es)) (nthOf k n es) ≡ Found.At e →
-        ((m : ℕ) → nthOf k m es ≡ Found.At e → P e) → P e
-    by-label true g later = by-count (eqb n 0) g later
-    by-label false g later = later n g
+    by-count : (b : Bool) → cond b (Found.At x) (later (n - 1)) ≡ Found.At e →
+        ((m : ℕ) → later m ≡ Found.At e → P e) → P e
+    by-count true g rest = let same : x ≡ e = cc in rw (← same) (a .0)
+    by-count false g rest = rest (n - 1) g
+
+    by-test : (b : Bool) → cond b (cond (eqb n 0) (Found.At x) (later (n - 1))) (later n) ≡ Found.At e →
+        ((m : ℕ) → later m ≡ Found.At e → P e) → P e
+    by-test true g rest = by-count (eqb n 0) g rest
+    by-test false g rest = rest n g
 
 placed-within : (from most : ℕ) (es : List Entry) → Placed from most es → All (λ e. e .place + e .len ≤ most) es
 placed-within from most [] p = tt
 placed-within from most (e ∷ es) p = (p .1, placed-within (e .place + e .len) most es (p .2))
 
--- nothing was found where something was
-not-both : {A : Type 0} {r : EntryFound} {e : Entry} → r ≡ Found.Nothing → r ≡ Found.At e → A
-not-both h g = let z : _≡_ {A = ℕ} 0 1 = cc in absurd (omega arith)
+-- the handed-out bodies are those of the handed-out label, where no entry has what is no label
+chance-bodies : (bytes : List ℕ) (es : List Entry) (rs : List TemplateRecord) → tally 1024 es ≡ 0 →
+    chanceAt bytes es rs .bodies ≡ bodiesAt bytes (firstLabel rs) es
+chance-bodies bytes es [] unused = sym (no-bodies bytes 1024 es unused)
+chance-bodies bytes es (r ∷ rs) unused = refl
 
--- no record is handed out
-no-bodies : (w b : List ℕ) (k : ℕ) → chanceCount w ≡ 0 → length (cacheOf (tableOf w) b .chance .bodies) ≤ k
-unfolding recordsFrom
-no-bodies w b k e =
-    rw (records-behind w (recordsAt (limitsOf w)) (heldCount w) (chanceCount w), e) (omega arith)
+-- the entry that was found, or none, for handed-out body k of a well-formed cache
+record Finds (w b : List ℕ) (k : ℕ) (r : EntryFound) : Type 0 where
+  absent : r ≡ Found.Nothing → length (cacheOf (tableOf w) b .chance .bodies) ≤ k
+  counted : (e : Entry) → r ≡ Found.At e → k < length (cacheOf (tableOf w) b .chance .bodies)
+  holds : (e : Entry) → r ≡ Found.At e → take (e .len) (drop (e .place) b) ≡ handedOut k (cacheOf (tableOf w) b) .bytes
+  within : (e : Entry) → r ≡ Found.At e → e .place + e .len ≤ limitsOf w .«max_total_bytes»
 
-pub none-found : (w b : List ℕ) (k : ℕ) → chanceCount w ≡ 0 → FindsHandedOut w b k Found.Nothing
-none-found w b k e = record {
-  absent = λ _. no-bodies w b k e;
-  counted = λ x h. not-both refl h;
-  holds = λ x h. not-both refl h;
-  within = λ x h. not-both refl h;
-}
+module _ (w b : List ℕ) (k : ℕ) (r : EntryFound) (ok : wellFormed w (length b) ≡ true)
+    (sought : r ≡ nthWatched (watchOf (firstLabel (tableOf w .handed)) 0 k) k (tableOf w .entries)) where
+  abbrev out : ℕ
+  out = firstLabel (tableOf w .handed)
 
--- The k-th entry of the handed-out record t: l are the limits that were read, and p where the records begin.
-module _ (w b : List ℕ) (k p : ℕ) (l : PendingFlowsConfig) (t : TemplateRecord) (r : EntryFound)
-    (ok : wellFormed w (length b) ≡ true) (some : chanceCount w ≡ 0 →
-    ⊥) (limits : l ≡ limitsOf w) (from : p ≡ recordsAt l)
-    (is : t ≡ recordAt w (p + recordWords * heldCount w))
-    (sought : r ≡ nthOf (t .label) k (entriesFrom w entriesAt (entryCount w))) where
   legal : LegalWords w (length b)
   legal = words-say w (length b) ok
 
-  handed-bodies : cacheOf (tableOf w) b .chance .bodies ≡ bodiesAt b (t .label) (tableOf w .entries)
-  unfolding recordsFrom
-  handed-bodies =
-      let c : chanceCount w ≡ 1 = omega (arith, legal .chance-flag, pos-of-ne-zero some) in
-      let q : recordsAt (limitsOf w) ≡ p = sym (from ∙ ap recordsAt limits) in
-      rw (records-behind w (recordsAt (limitsOf w)) (heldCount w) (chanceCount w), c, q, is)
+  handed-bodies : cacheOf (tableOf w) b .chance .bodies ≡ bodiesAt b out (tableOf w .entries)
+  handed-bodies = chance-bodies b (tableOf w .entries) (tableOf w .handed) (none-unlabelled w (length b) ok)
 
-  nth : NthBody b k (bodiesAt b (t .label) (tableOf w .entries)) (nthOf (t .label) k (tableOf w .entries))
-  nth = nth-body b (t .label) k (tableOf w .entries)
+  nth-is : {x : EntryFound} → r ≡ x → NthBody b k (bodiesAt b out (tableOf w .entries)) x
+  nth-is h = rw (sym sought ∙ h) at (nth-body b out k k (tableOf w .entries))
 
-  nth-is : {x : EntryFound} → r ≡ x → NthBody b k (bodiesAt b (t .label) (tableOf w .entries)) x
-  nth-is h = rw (sym sought ∙ h) at nth
-
-  pub one-found : FindsHandedOut w b k r
-  one-found = record {
+  finds : Finds w b k r
+  finds = record {
     absent = λ h. rw handed-bodies (nth-is h);
     counted = λ e h. rw handed-bodies (nth-is h .0);
     holds = λ e h. rw handed-bodies (sym (ap (λ (x : Body). x .bytes) (nth-is h .1)));
     within = λ e h.
-        found-all (λ x. x .place + x .len ≤ limitsOf w .«max_total_bytes») (t .label) k (tableOf w .entries) e
+        found-all (λ x. x .place + x .len ≤ limitsOf w .«max_total_bytes») (watchOf out 0 k) k (tableOf w .entries) e
         (placed-within 0 (limitsOf w .«max_total_bytes») (tableOf w .entries) (legal .table-legal .entries-placed))
         (sym sought ∙ h);
   }
 
--- The call for a place on a well-formed cache, by the entry that was found.
-module _ (w b : List ℕ) (k : ℕ) {s : Bool} {r : EntryFound} (tested : s ≡ wellFormed w (length b)) (ok : s ≡ true)
-    (finds : FindsHandedOut w b k r) where
+-- The call for a place on a well-formed cache, by the entry that was found: x is the table that was tested.
+module _ (w b : List ℕ) (k : ℕ) {x : TableSeen} {s : LabelSeen} {r : EntryFound}
+    (tested : x ≡ examined w (length b) (Sought.HandedOut k)) (seen : x ≡ Seen.WellFormed s) (is : r ≡ s .found) where
+  ok : wellFormed w (length b) ≡ true
+  ok = seen-legal w b (Sought.HandedOut k) tested seen
+
+  found : Finds w b k r
+  unfolding seenBy watchFor
+  found =
+      finds w b k r ok
+      (is ∙ ap (λ (y : LabelSeen). y .found) (is-seen (wellFormed w (length b)) _ tested seen))
+
   said : placeHandedOut k (cacheOf (tableOf w) b) ≡ asked (placeHandedOut k) (view (areasOf w b))
-  said = answered (placeHandedOut k) w b tested ok
+  said = answered (placeHandedOut k) w b refl ok
 
   same-cache : (c : Cache) → view (areasOf w b) ≡ some c → cacheOf (tableOf w) b ≡ c
   unfolding view
-  same-cache c e = let v : wellFormed w (length b) ≡ true = sym tested ∙ ok in some-is (rw v at e)
+  same-cache c e = some-is (rw ok at e)
     where
       some-is : some (cacheOf (tableOf w) b) ≡ some c → cacheOf (tableOf w) b ≡ c
       some-is h = cc
@@ -126,7 +129,7 @@ module _ (w b : List ℕ) (k : ℕ) {s : Bool} {r : EntryFound} (tested : s ≡ 
       PlacesHandedOut (areasOf w b) k (Place.Refused Refusal.NotHandedOut) (areasOf w b)
   unfolding placeHandedOut
   not-handed-out h = record {
-    answer = rw (le-ltb k (length (cacheOf (tableOf w) b .chance .bodies)) (finds .absent h)) at said;
+    answer = rw (le-ltb k (length (cacheOf (tableOf w) b .chance .bodies)) (found .absent h)) at said;
     within = λ p g. other p g;
     inside = λ p g. other p g;
     holds = λ p c g v. other p g;
@@ -145,27 +148,27 @@ module _ (w b : List ℕ) (k : ℕ) {s : Bool} {r : EntryFound} (tested : s ≡ 
   handed-out-at e h = record {
     answer =
         ap spans (long e h)
-        ∙ (rw (lt-ltb k (length (cacheOf (tableOf w) b .chance .bodies)) (finds .counted e h)) at said);
-    within = λ p g. let same : placeOf e ≡ p = cc in rw (← same) (finds .within e h);
+        ∙ (rw (lt-ltb k (length (cacheOf (tableOf w) b .chance .bodies)) (found .counted e h)) at said);
+    within = λ p g. let same : placeOf e ≡ p = cc in rw (← same) (found .within e h);
     inside = λ p g. let same : placeOf e ≡ p = cc in rw (← same) (ends e h);
-    holds = λ p c g v. let same : placeOf e ≡ p = cc in rw (← same, ← same-cache c v) (finds .holds e h);
+    holds = λ p c g v. let same : placeOf e ≡ p = cc in rw (← same, ← same-cache c v) (found .holds e h);
     unchanged = refl;
   }
     where
       ends : (e : Entry) → r ≡ Found.At e → e .place + e .len ≤ length b
       ends e h =
-          let legal : LegalWords w (length b) = words-say w (length b) (sym tested ∙ ok) in
-          omega (arith, finds .within e h, legal .limits-legal .bytes-enough)
+          let legal : LegalWords w (length b) = words-say w (length b) ok in
+          omega (arith, found .within e h, legal .limits-legal .bytes-enough)
 
       long : (e : Entry) → r ≡ Found.At e → e .len ≡ length (handedOut k (cacheOf (tableOf w) b) .bytes)
       long e h =
           sym (length-take-le (e .len) (drop (e .place) b) (omega (arith, ends e h, length-drop (e .place) b)))
-          ∙ ap length (finds .holds e h)
+          ∙ ap length (found .holds e h)
 
-pub place-damaged : (w b : List ℕ) (k : ℕ) {s : Bool} → s ≡ wellFormed w (length b) → s ≡ false →
-    PlacesHandedOut (areasOf w b) k (Place.Refused Refusal.Damaged) (areasOf w b)
-place-damaged w b k tested failed = record {
-  answer = damaged (placeHandedOut k) w b tested failed;
+pub place-damaged : (w b : List ℕ) (k : ℕ) {x : TableSeen} → x ≡ examined w (length b) (Sought.HandedOut k) →
+    x ≡ Seen.Damaged → PlacesHandedOut (areasOf w b) k (Place.Refused Refusal.Damaged) (areasOf w b)
+place-damaged w b k tested e = record {
+  answer = seen-damaged w b (Sought.HandedOut k) tested (placeHandedOut k) e;
   within = λ p g. other p g;
   inside = λ p g. other p g;
   holds = λ p c g v. other p g;

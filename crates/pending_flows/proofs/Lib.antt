@@ -1,5 +1,4 @@
 pub mod Openings
-pub mod Caps
 pub mod Templates
 pub mod Questions
 pub mod Weights

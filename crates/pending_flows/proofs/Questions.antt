@@ -1,29 +1,36 @@
 -- The queries on a well-formed table: what is read off the words is what the cache says. Assumes nothing.
 use mathlib.Core.Path.{_≡_, refl, ap, sym, _∙_}
-use mathlib.Core.Bool.{Bool, true, false, not, _&&_}
-use mathlib.Core.List.{List}
-use Prim.Native.Nat.{ℕ, zero, suc, _+_, _*_, _≤_, _<_}
-use native.Mathlib.Nat.{suc-add}
+use mathlib.Core.Bool.{Bool, true, false, not}
+use mathlib.Core.List.{List, _++_}
+use Prim.Native.Nat.{ℕ, _+_, _*_, _≤_, _<_}
 use native.Mathlib.Omega.{arith}
-use lib.Dec.{leb, ltb}
-use lib.ListN.{length, take}
+use lib.Dec.{ltb}
+use lib.ListN.{length}
 use borrow.Author.Tests.{le-leb, lt-leb}
 use Rattle.config.specs.declared.PendingFlowsConfig.{PendingFlowsConfig}
 use Rattle.config.specs.Limits.{headerWords, recordWords, entryWords, maxBodies}
-use Rattle.table.specs.declared.LabelFound.{LabelFound}
-use Rattle.table.specs.declared.LabelFound.the-variants as Label
-use Rattle.table.specs.Layout.{limitsOf, heldCount, entryCount, chanceCount, entriesAt, recordsAt}
-use Rattle.table.specs.Table.{tableOf, entriesFrom, recordsFrom}
+use Rattle.config.proofs.Lists.{all-map}
+use Rattle.table.specs.declared.Sought.{Sought}
+use Rattle.table.specs.declared.Sought.the-variants as Sought
+use Rattle.table.specs.declared.LabelSeen.{LabelSeen}
+use Rattle.table.specs.declared.TableSeen.{TableSeen}
+use Rattle.table.specs.declared.TableSeen.the-variants as Seen
+use Rattle.table.specs.Layout.{limitsOf, heldCount, entryCount, recordsAt}
+use Rattle.table.specs.Table.{tableOf, tally}
 use Rattle.table.specs.WellFormed.{wellFormed}
-use Rattle.table.specs.Reads.{labelOf, liveCount}
+use Rattle.table.specs.Reads.{labelOf, labelOrNone}
+use Rattle.table.specs.Watch.{watchFor, seenBy, examined}
 use Rattle.table.proofs.Facts.{LegalWords, words-say}
-use Rattle.cache_model.specs.Bodies.{keep, expired}
+use Rattle.table.proofs.Labels.{absent-tally}
+use Rattle.table.proofs.Watched.{is-damaged, is-legal, is-seen}
+use Rattle.table.proofs.LiveWatch.{watched-live}
+use Rattle.cache_model.specs.Bodies.{keep, bodiesOf, expired}
 use Rattle.cache_model.specs.Cache.{Cache, Answer, number, says}
 use Rattle.cache_model.specs.Queries.{wouldAccept}
-use Rattle.pending_flows.specs.Live.{liveOf}
 use Rattle.pending_flows.specs.View.{Areas, areasOf, cacheOf, view}
-use Rattle.pending_flows.specs.Queries.{asked, Asks}
-use Rattle.pending_flows.proofs.Templates.{bodiesOfLabel, bodies-of-id, live-bodies}
+use Rattle.pending_flows.specs.Queries.{asked, Asks, acceptsWith}
+use Rattle.pending_flows.proofs.Templates.{found-bodies, live-bodies}
+pub use Rattle.table.proofs.Words.{first-records}
 
 -- The test behind 28 was v: then 28, or the question's answer.
 module _ (question : Cache → Answer) (w b : List ℕ) {v : Bool} (tested : v ≡ wellFormed w (length b)) where
@@ -42,13 +49,7 @@ asks e = record { answer = e; unchanged = refl }
 pub well-formed : (w : List ℕ) (n : ℕ) {v : Bool} → v ≡ wellFormed w n → v ≡ true → wellFormed w n ≡ true
 well-formed w n e h = sym e ∙ h
 
--- the first of the records
-pub first-records : (w : List ℕ) (p n c : ℕ) → take n (recordsFrom w p (n + c)) ≡ recordsFrom w p n
-unfolding recordsFrom
-first-records w p zero c = refl
-first-records w p (suc n) c = rw (suc-add n c, first-records w (p + recordWords) n c)
-
--- what the words of a well-formed table hold is within them
+-- what the words of a well-formed table hold is within them, and what is no label is no entry's
 module _ (w : List ℕ) (n : ℕ) (ok : wellFormed w n ≡ true) where
   legal : LegalWords w n
   legal = words-say w n ok
@@ -69,58 +70,65 @@ module _ (w : List ℕ) (n : ℕ) (ok : wellFormed w n ≡ true) where
   bodies-few l e = let z : maxBodies l ≡ maxBodies (limitsOf w) = ap maxBodies e in omega
       (arith, legal .limits-legal .bodies-few)
 
--- The live bodies of an id, by what was found for it: l are the limits that were read, and p where the records begin.
-module _ (w b : List ℕ) (id clock p : ℕ) (l : PendingFlowsConfig) (x : LabelFound) (limits : l ≡ limitsOf w)
-    (from : p ≡ recordsAt l) (searched : x ≡ labelOf id (recordsFrom w p (heldCount w))) where
-  held-found : labelOf id (tableOf w .held) ≡ x
-  held-found =
-      ap (labelOf id) (first-records w (recordsAt (limitsOf w)) (heldCount w) (chanceCount w))
-      ∙ ap (λ (q : ℕ). labelOf id (recordsFrom w q (heldCount w))) (sym (from ∙ ap recordsAt limits))
-      ∙ sym searched
+  pub none-unlabelled : tally 1024 (tableOf w .entries) ≡ 0
+  none-unlabelled =
+      let all = tableOf w .held ++ tableOf w .handed in
+      absent-tally 1024 all (tableOf w .entries)
+      (all-map _ _ (λ r x d. omega (arith, x .label-small)) all (legal .table-legal .records-legal))
+      (all-map _ _ (λ e x. x .label-known) (tableOf w .entries) (legal .table-legal .entries-legal))
 
-  by-found : liveOf id clock (cacheOf (tableOf w) b)
-      ≡ length (keep (λ y. not (expired (limitsOf w .ttl) clock y)) (bodiesOfLabel b x (tableOf w .entries)))
-  by-found = rw (bodies-of-id b id (tableOf w .entries) (tableOf w .held), held-found)
+-- The areas were examined: x is what was answered.
+module _ (w b : List ℕ) (sought : Sought) {x : TableSeen} (tested : x ≡ examined w (length b) sought) where
+  pub seen-damaged : (question : Cache → Answer) → x ≡ Seen.Damaged →
+      number 28 ≡ asked question (view (areasOf w b))
+  seen-damaged question e = damaged question w b (is-damaged (wellFormed w (length b)) _ tested e) refl
 
-  pub none-live : x ≡ Label.Nothing → 0 ≡ liveOf id clock (cacheOf (tableOf w) b)
-  none-live e = sym (by-found ∙ rw e)
+  pub seen-legal : {s : LabelSeen} → x ≡ Seen.WellFormed s → wellFormed w (length b) ≡ true
+  seen-legal e = sym (is-legal (wellFormed w (length b)) _ tested e)
 
-  pub live-found : {k n : ℕ} → x ≡ Label.At k → n ≡ liveCount (l .ttl) clock k (entriesFrom w entriesAt
-      (entryCount w)) →
-      n ≡ liveOf id clock (cacheOf (tableOf w) b)
-  live-found {k} e h =
-      h ∙ ap (λ (c : PendingFlowsConfig). liveCount (c .ttl) clock k (tableOf w .entries)) limits
-      ∙ live-bodies b (limitsOf w .ttl) clock k (tableOf w .entries) ∙ sym (by-found ∙ rw e)
+  pub header-seen : {s : LabelSeen} → x ≡ Seen.WellFormed s → headerWords ≤ length w
+  header-seen e = header-within w (length b) (seen-legal e)
 
--- `would_accept`, test by test, with the limits l that were read
-module _ (w b : List ℕ) (id len clock : ℕ) (l : PendingFlowsConfig) (limits : l ≡ limitsOf w) where
-  abbrev says-yes : PendingFlowsConfig → Bool
-  says-yes c = leb len (c .«max_entry_size_bytes») && (leb len (c .«max_total_bytes») &&
-      ltb (liveOf id clock (cacheOf (tableOf w) b)) (c .«max_entries_per_template»))
-
-  by-limits : says-yes l ≡ wouldAccept id len clock (cacheOf (tableOf w) b)
-  unfolding wouldAccept
-  by-limits = ap says-yes limits
-
-  pub over-entry-size : l .«max_entry_size_bytes» < len → false ≡ wouldAccept id len clock (cacheOf (tableOf w) b)
-  over-entry-size h = rw (lt-leb len (l .«max_entry_size_bytes») h) at by-limits
+-- the test of `would_accept`, by the limits and the unexpired bodies
+module _ (l : PendingFlowsConfig) (len live : ℕ) where
+  pub over-entry-size : l .«max_entry_size_bytes» < len → false ≡ acceptsWith l len live
+  unfolding acceptsWith
+  over-entry-size h = rw (lt-leb len (l .«max_entry_size_bytes») h)
 
   module _ (fits-entry : len ≤ l .«max_entry_size_bytes») where
-    pub over-total : l .«max_total_bytes» < len → false ≡ wouldAccept id len clock (cacheOf (tableOf w) b)
-    over-total h =
-        rw (le-leb len (l .«max_entry_size_bytes») fits-entry, lt-leb len (l .«max_total_bytes») h) at by-limits
+    pub over-total : l .«max_total_bytes» < len → false ≡ acceptsWith l len live
+    unfolding acceptsWith
+    over-total h = rw (le-leb len (l .«max_entry_size_bytes») fits-entry, lt-leb len (l .«max_total_bytes») h)
 
-    pub by-room : {v : Bool} → len ≤ l .«max_total_bytes» →
-        v ≡ ltb (liveOf id clock (cacheOf (tableOf w) b)) (l .«max_entries_per_template») →
-        v ≡ wouldAccept id len clock (cacheOf (tableOf w) b)
-    by-room h e =
-        e ∙ (rw (le-leb len (l .«max_entry_size_bytes») fits-entry, le-leb len (l .«max_total_bytes») h) at by-limits)
+    pub by-room : len ≤ l .«max_total_bytes» → ltb live (l .«max_entries_per_template») ≡ acceptsWith l len live
+    unfolding acceptsWith
+    by-room h = rw (le-leb len (l .«max_entry_size_bytes») fits-entry, le-leb len (l .«max_total_bytes») h)
 
--- both answers of `would_accept` on a well-formed cache
-module _ (w b : List ℕ) (id len clock : ℕ) {s v : Bool} (tested : s ≡ wellFormed w (length b)) (ok : s ≡ true)
-    (is : v ≡ wouldAccept id len clock (cacheOf (tableOf w) b)) where
+-- Both answers of `would_accept` on a well-formed cache, by what was seen of the id's bodies: x is the table that was
+-- tested, and l the limits that were read.
+module _ (w b : List ℕ) (id len clock : ℕ) {x : TableSeen} {s : LabelSeen} {l : PendingFlowsConfig} {v : Bool}
+    (tested : x ≡ examined w (length b) (Sought.Live id clock)) (seen : x ≡ Seen.WellFormed s) (limits : l ≡ limitsOf w)
+    (is : v ≡ acceptsWith l len (s .live)) where
+  ok : wellFormed w (length b) ≡ true
+  ok = seen-legal w b (Sought.Live id clock) tested seen
+
+  unused : tally 1024 (tableOf w .entries) ≡ 0
+  unused = none-unlabelled w (length b) ok
+
+  live-right : s .live ≡ length (keep (λ y. not (expired (limitsOf w .ttl) clock y))
+      (bodiesOf id (cacheOf (tableOf w) b .held)))
+  unfolding seenBy watchFor
+  live-right =
+      ap (λ (y : LabelSeen). y .live) (is-seen (wellFormed w (length b)) _ tested seen)
+      ∙ watched-live (labelOrNone (labelOf id (tableOf w .held))) (limitsOf w .ttl) clock (tableOf w .entries) unused
+      ∙ live-bodies b (limitsOf w .ttl) clock (labelOrNone (labelOf id (tableOf w .held))) (tableOf w .entries)
+      ∙ rw (found-bodies b id (tableOf w .entries) (tableOf w .held) unused)
+
   told : says v ≡ asked (λ c. says (wouldAccept id len clock c)) (view (areasOf w b))
-  told = ap says is ∙ answered (λ c. says (wouldAccept id len clock c)) w b tested ok
+  unfolding acceptsWith wouldAccept
+  told =
+      ap says (is ∙ rw (limits, live-right))
+      ∙ answered (λ c. says (wouldAccept id len clock c)) w b refl ok
 
   pub told-yes : v ≡ true → says true ≡ asked (λ c. says (wouldAccept id len clock c)) (view (areasOf w b))
   told-yes h = ap says (sym h) ∙ told

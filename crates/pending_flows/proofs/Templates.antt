@@ -17,7 +17,9 @@ use Rattle.table.specs.declared.LabelFound.the-variants as Label
 use Rattle.table.specs.declared.EntryFound.{EntryFound}
 use Rattle.table.specs.declared.EntryFound.the-variants as Found
 use Rattle.table.specs.Table.{tally}
-use Rattle.table.specs.Reads.{labelOf, liveCount, countSum, nthOf, labelOrNone}
+use Rattle.table.specs.Reads.{labelOf, liveCount, countSum, labelOrNone}
+use Rattle.table.specs.Watch.{nthWatched, watchOf}
+use Rattle.table.proofs.LiveWatch.{any-clock}
 use Rattle.cache_model.specs.Bodies.{Body, keep, allBodies, bodiesOf, expired}
 use Rattle.cache_model.specs.Queries.{noBody}
 use Rattle.pending_flows.specs.View.{bodyAt, bodiesAt, templatesAt}
@@ -109,26 +111,30 @@ module _ (bytes : List ℕ) where
   NthBody n bs Found.Nothing = length bs ≤ n
   NthBody n bs (Found.At e) = (n < length bs) × (getD bs n noBody ≡ bodyAt bytes e)
 
-  pub nth-body : (k n : ℕ) (es : List Entry) → NthBody n (bodiesAt bytes k es) (nthOf k n es)
-  unfolding nthOf
-  nth-body k n [] = omega arith
-  nth-body k n (e ∷ es) = by-label (eqb k (e .label)) (λ m. nth-body k m es)
+  pub nth-body : (k n nth : ℕ) (es : List Entry) →
+      NthBody n (bodiesAt bytes k es) (nthWatched (watchOf k 0 nth) n es)
+  unfolding nthWatched
+  nth-body k n nth [] = omega arith
+  nth-body k n nth (e ∷ es) = rw (any-clock k nth e) (by-label (eqb k (e .label)) (λ m. nth-body k m nth es))
     where
       bs : List Body
       bs = bodiesAt bytes k es
+
+      later : ℕ → EntryFound
+      later m = nthWatched (watchOf k 0 nth) m es
 
       further : (m : ℕ) (x : EntryFound) → NthBody m bs x → NthBody (suc m) (bodyAt bytes e ∷ bs) x
       further m Found.Nothing h = omega arith
       further m (Found.At f) h = (omega (arith, h .0), h .1)
 
-      counted : (n : ℕ) → ((m : ℕ) → NthBody m bs (nthOf k m es)) →
-          NthBody n (bodyAt bytes e ∷ bs) (cond (eqb n 0) (Found.At e) (nthOf k (n - 1) es))
+      counted : (n : ℕ) → ((m : ℕ) → NthBody m bs (later m)) →
+          NthBody n (bodyAt bytes e ∷ bs) (cond (eqb n 0) (Found.At e) (later (n - 1)))
       counted zero ih = (omega arith, refl)
       counted (suc m) ih = let z : suc m - 1 ≡ m = omega arith in rw (z, ne-eqb (suc m) 0 (λ q. omega arith))
-          (further m (nthOf k m es) (ih m))
+          (further m (later m) (ih m))
 
-      by-label : (b : Bool) → ((m : ℕ) → NthBody m bs (nthOf k m es)) →
+      by-label : (b : Bool) → ((m : ℕ) → NthBody m bs (later m)) →
           NthBody n (cond b (bodyAt bytes e ∷ bs) bs)
-          (cond b (cond (eqb n 0) (Found.At e) (nthOf k (n - 1) es)) (nthOf k n es))
+          (cond (b && true) (cond (eqb n 0) (Found.At e) (later (n - 1))) (later n))
       by-label true ih = counted n ih
       by-label false ih = ih n

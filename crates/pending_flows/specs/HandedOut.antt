@@ -2,13 +2,9 @@
 use mathlib.Core.Path.{_≡_}
 use mathlib.Core.List.{List, []}
 use mathlib.Core.Option.{some}
-use Prim.Native.Nat.{ℕ, _+_, _≤_, _<_}
+use Prim.Native.Nat.{ℕ, _+_, _≤_}
 use lib.ListN.{length, take, drop}
-use Rattle.table.specs.declared.Entry.{Entry}
-use Rattle.table.specs.declared.EntryFound.{EntryFound}
-use Rattle.table.specs.declared.EntryFound.the-variants as Found
 use Rattle.table.specs.Layout.{limitsOf}
-use Rattle.table.specs.Table.{tableOf}
 use Rattle.cache_model.specs.Cache.{Cache, Answer, done, number, count, says, shows, spans, tells}
 use Rattle.cache_model.specs.Queries.{placeHandedOut, readHandedOut, handedOut}
 use Rattle.pending_flows.specs.declared.handed_out.BodyPlace.{BodyPlace}
@@ -16,7 +12,7 @@ use Rattle.pending_flows.specs.declared.handed_out.PlaceRefusal.{PlaceRe
 use Rattle.pending_flows.specs.declared.handed_out.PlaceRefusal.the-variants as Refusal
 use Rattle.pending_flows.specs.declared.handed_out.PlaceAnswer.{PlaceAnswer}
 use Rattle.pending_flows.specs.declared.handed_out.PlaceAnswer.the-variants as Place
-use Rattle.pending_flows.specs.View.{Areas, cacheOf, view}
+use Rattle.pending_flows.specs.View.{Areas, view}
 use Rattle.pending_flows.specs.Queries.{asked}
 
 -- the bytes that an answer shows: none in a refusal
@@ -52,11 +48,3 @@ pub record PlacesHandedOut (a : Areas) (k : ℕ) (r : PlaceAnswer) (a′ : Areas
 pub record ReadsHandedOut (a : Areas) (k : ℕ) (bs : List ℕ) (a′ : Areas) : Type 0 where
   pub part : bs ≡ shown (asked (readHandedOut k) (view a))
   pub unchanged : a′ ≡ a
-
--- the same of the entry that is found in a well-formed cache
-pub record FindsHandedOut (w b : List ℕ) (k : ℕ) (r : EntryFound) : Type 0 where
-  pub absent : r ≡ Found.Nothing → length (cacheOf (tableOf w) b .chance .bodies) ≤ k
-  pub counted : (e : Entry) → r ≡ Found.At e → k < length (cacheOf (tableOf w) b .chance .bodies)
-  pub holds : (e : Entry) → r ≡ Found.At e →
-      take (e .len) (drop (e .place) b) ≡ handedOut k (cacheOf (tableOf w) b) .bytes
-  pub within : (e : Entry) → r ≡ Found.At e → e .place + e .len ≤ limitsOf w .«max_total_bytes»

@@ -1,6 +1,5 @@
 pub mod View
 pub mod Header
 pub mod Opening
-pub mod Live
 pub mod Queries
 pub mod HandedOut

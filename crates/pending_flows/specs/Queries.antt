@@ -1,7 +1,10 @@
 -- What the queries promise.
 use mathlib.Core.Path.{_≡_}
-use mathlib.Core.Bool.{true, false}
+use mathlib.Core.Bool.{Bool, true, false, _&&_}
 use mathlib.Core.Option.{Option}
+use Prim.Native.Nat.{ℕ}
+use lib.Dec.{leb, ltb}
+use Rattle.config.specs.declared.PendingFlowsConfig.{PendingFlowsConfig}
 use Rattle.cache_model.specs.Cache.{Cache, Figures, Answer, number, says, tells}
 use Rattle.cache_model.specs.Reply.{called}
 use Rattle.pending_flows.specs.View.{Areas, view}
@@ -25,6 +28,11 @@ abbrev pub acceptAnswer : AcceptAnswer → Answer
 acceptAnswer Accept.Yes = says true
 acceptAnswer Accept.No = says false
 acceptAnswer Accept.Damaged = number 28
+
+-- what is asked of the limits and of an id's unexpired bodies, counted
+unfoldable pub acceptsWith : PendingFlowsConfig → ℕ → ℕ → Bool
+acceptsWith l len live =
+    leb len (l .«max_entry_size_bytes») && (leb len (l .«max_total_bytes») && ltb live (l .«max_entries_per_template»))
 
 -- of the figures
 abbrev pub figuresRecord : CacheFigures → Figures

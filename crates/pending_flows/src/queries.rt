@@ -1,7 +1,6 @@
 // The queries.
 ghost use mathlib.Core.Path.{_≡_};
 ghost use mathlib.Core.Bool.{true};
-ghost use lib.Dec.{ltb};
 ghost use lib.ListN.{length};
 ghost use Rattle.table.specs.Layout.{limitsOf};
 ghost use Rattle.table.specs.Table.{tableOf};
@@ -10,22 +9,18 @@ ghost use Rattle.table.specs.WellFormed.{wellFormed};
 ghost use Rattle.cache_model.specs.Cache.{says, tells};
 ghost use Rattle.cache_model.specs.Queries.{wouldAccept, figures};
 ghost use Rattle.pending_flows.specs.View.{areasOf, cacheOf};
-ghost use Rattle.pending_flows.specs.Queries.{Asks, acceptAnswer, figuresRecord, figuresAnswer};
-ghost use Rattle.pending_flows.specs.Live.{liveOf};
+ghost use Rattle.pending_flows.specs.Queries.{Asks, acceptsWith, acceptAnswer, figuresRecord, figuresAnswer};
 use config::PendingFlowsConfig;
 use config::RECORD_WORDS;
-use config::Ttl;
 use table::CACHED;
 use table::CHANCE_COUNT;
 use table::DROPPED;
 use table::ENTRY_COUNT;
 use table::HELD_COUNT;
-use table::LabelFound;
+use table::Sought;
 use table::TOTAL;
-use table::count_of;
-use table::label_of;
+use table::TableSeen;
 use table::limits_at;
-use table::live_count;
 use table::record_at;
 use table::records_at;
 
@@ -37,53 +32,17 @@ pub enum AcceptAnswer {
     Damaged,
 }
 
-// How many of this id's bodies are not expired.
-fn live_of(words: &[u64], bytes: &[u8], limits: PendingFlowsConfig, id: u64, clock: u64) -> usize
-    requires { ⌜ (wellFormed (now words) (length (now bytes)) ≡ true) × (limits ≡ tableOf (now words) .limits) ⌝ }
-    ensures { λ r. ⌜ r ≡ liveOf id clock (cacheOf (tableOf (now (words .entry))) (now (bytes .entry))) ⌝ }
+// Whether a body of this length is within the limits, and the id's unexpired bodies are fewer than the cap.
+fn accepts(limits: PendingFlowsConfig, len: usize, live: usize) -> bool
+    ensures { λ r. ⌜ r ≡ acceptsWith limits len live ⌝ }
 {
-    let held = words[HELD_COUNT] as usize;
-    let entries = words[ENTRY_COUNT] as usize;
-    let LabelFound::At(label) = label_of(words, records_at(limits), held, id) else {
-        return 0;
-    };
-    let ttl = limits.ttl;
-    live_count(words, entries, label, ttl, clock)
-}
-
-// Whether this id's live bodies are fewer than the cap. Bodies are looked at only where the template is full and some
-// may be expired.
-fn has_room(words: &[u64], bytes: &[u8], limits: PendingFlowsConfig, id: u64, clock: u64) -> bool
-    requires { ⌜ (wellFormed (now words) (length (now bytes)) ≡ true) × (limits ≡ tableOf (now words) .limits) ⌝ }
-    ensures { λ r.
-        ⌜ r ≡ ltb (liveOf id clock (cacheOf (tableOf (now (words .entry))) (now (bytes .entry))))
-        (limits .«max_entries_per_template») ⌝ }
-{
-    let held = words[HELD_COUNT] as usize;
-    let bodies = count_of(words, records_at(limits), held, id);
-    if bodies < (limits.max_entries_per_template as u64) {
-        return true;
-    }
-    let ttl = limits.ttl;
-    let Ttl::After(_) = ttl else {
-        return false;
-    };
-    live_of(words, bytes, limits, id, clock) < limits.max_entries_per_template
-}
-
-// Whether a well-formed cache would accept a body of this id and length at this clock reading.
-fn accepts(words: &[u64], bytes: &[u8], id: u64, len: usize, clock: u64) -> bool
-    requires { ⌜ wellFormed (now words) (length (now bytes)) ≡ true ⌝ }
-    ensures { λ r. ⌜ r ≡ wouldAccept id len clock (cacheOf (tableOf (now (words .entry))) (now (bytes .entry))) ⌝ }
-{
-    let limits = limits_at(words);
     if limits.max_entry_size_bytes < len {
         return false;
     }
     if limits.max_total_bytes < len {
         return false;
     }
-    has_room(words, bytes, limits, id, clock)
+    live < limits.max_entries_per_template
 }
 
 // Whether an offer would be accepted: yes binds an offer of this id and length at this clock reading, no does not.
@@ -92,13 +51,17 @@ pub fn would_accept(words: &[u64], bytes: &[u8], id: u16, len: usize, clock: u64
         ⌜ Asks (λ c. says (wouldAccept id len clock c)) (areasOf (now (words .entry)) (now (bytes .entry)))
         (acceptAnswer r) (areasOf (now (words .exit)) (now (bytes .exit))) ⌝ }
 {
-    if table::well_formed(words, bytes.len()) {
-        if accepts(words, bytes, id as u64, len, clock) {
-            return AcceptAnswer::Yes;
-        }
-        return AcceptAnswer::No;
+    let live = Sought::Live {
+        id: id as u64,
+        clock,
+    };
+    let TableSeen::WellFormed(seen) = table::examine(words, bytes.len(), live) else {
+        return AcceptAnswer::Damaged;
+    };
+    if accepts(limits_at(words), len, seen.live) {
+        return AcceptAnswer::Yes;
     }
-    AcceptAnswer::Damaged
+    AcceptAnswer::No
 }
 
 // The figures of a cache.

@@ -9,7 +9,7 @@ use lib.Dec.{eqb, leb, ltb}
 use lib.ListN.{getD}
 use borrow.Author.Tests.{leb-true, lt-ltb, le-ltb, le-leb, lt-leb, eq-eqb, ne-eqb}
 use Rattle.config.specs.Limits.{entryWords}
-use Rattle.config.proofs.Tests.{and-left, and-right, same-order}
+use Rattle.config.proofs.Tests.{and-left, and-right}
 use Rattle.table.specs.declared.Entry.{Entry}
 use Rattle.table.specs.Layout.{entriesAt}
 use Rattle.table.specs.Table.{entryAt, entriesFrom}
@@ -27,11 +27,14 @@ module _ (size most end : ℕ) (e : Entry) where
     unfolding entryFits
     overlaps h = simp (le-leb _ _ short, lt-leb _ _ h)
 
-    pub end-decides : size ≤ most → end ≤ e .place → leb (e .place) (most - e .len) ≡ entryFits size most end e
-    unfolding entryFits
-    end-decides s h =
-        same-order (e .place) (most - e .len) (e .place + e .len) most (λ k. omega arith) (λ k. omega arith)
-        ∙ simp (le-leb _ _ short, le-leb _ _ h)
+    module _ (above : end ≤ e .place) where
+      pub begins-past : most < e .place → false ≡ entryFits size most end e
+      unfolding entryFits
+      begins-past h = simp (le-leb _ _ short, le-leb _ _ above, lt-leb (e .place + e .len) most (omega arith))
+
+      pub end-decides : leb (e .place + e .len) most ≡ entryFits size most end e
+      unfolding entryFits
+      end-decides = simp (le-leb _ _ short, le-leb _ _ above)
 
 pub record Fits (size most end : ℕ) (e : Entry) : Type 0 where
   pub short : e .len ≤ size
@@ -82,10 +85,18 @@ module _ (w : List ℕ) (entries size most out total : ℕ) where
 
   module _ {allow₀ allow : List ℕ} {end held left p : ℕ}
       (inv : EntriesPassed w entries size most out total allow₀ allow end held left p) where
-    pub entries-passed : left ≤ 0 →
-        eqb held total ≡ entriesPass size most out total 0 allow₀ 0 (entriesFrom w entriesAt entries)
-    unfolding entriesPass
-    entries-passed h = rw (entries-none w p left h) at (inv .test)
+    module _ (none : left ≤ 0) where
+      total-test : eqb held total ≡ entriesPass size most out total 0 allow₀ 0 (entriesFrom w entriesAt entries)
+      unfolding entriesPass
+      total-test = rw (entries-none w p left none) at (inv .test)
+
+      pub total-wrong : (held ≡ total → ⊥) →
+          false ≡ entriesPass size most out total 0 allow₀ 0 (entriesFrom w entriesAt entries)
+      total-wrong h = sym (ne-eqb held total h) ∙ total-test
+
+      pub total-right : held ≡ total →
+          true ≡ entriesPass size most out total 0 allow₀ 0 (entriesFrom w entriesAt entries)
+      total-right h = sym (eq-eqb held total h) ∙ total-test
 
     module _ (e : Entry) (more : 0 < left) (is : e ≡ entryAt w p) where
       next-test : ltb (e .label) 1024 && (ltb 0 (getD allow (e .label) 0) && (entryFits size most end e && entriesPass
@@ -122,6 +133,9 @@ module _ (w : List ℕ) (entries size most out total : ℕ) where
 
             pub end-fits : most < 2 ^ 64 → e .place + e .len < 2 ^ 64
             end-fits m = let f = fits-there in omega arith
+
+            pub held-fits : most < 2 ^ 64 → {add : ℕ} → add ≡ heldLen out e → held + add < 2 ^ 64
+            held-fits m h = let f = fits-there in omega (arith, adds-within out e)
 
             later-test : entriesPass size most out total (e .place + e .len) (lessAt allow (e .label))
                 (held + heldLen out e) (entriesFrom w (p + entryWords) (left - 1))

@@ -18,6 +18,9 @@ use Rattle.table.specs.Layout.{limitsOf, ttlSet, heldCount, entryCount, 
 use Rattle.table.specs.Table.{tableOf, index}
 use Rattle.table.specs.WellFormed.{limitsLegal, flagsLegal, countsLegal, tableLegal, wellFormed}
 use Rattle.table.specs.Passes.{HeaderLegal}
+use Rattle.table.specs.declared.LabelSeen.{LabelSeen}
+use Rattle.table.specs.declared.TableSeen.{TableSeen}
+use Rattle.table.specs.Watch.{judged}
 use Rattle.config.proofs.Limits.{LegalLimits, limits-say, cap-small}
 use Rattle.config.proofs.Tests.{and-left, and-right, and-fails, and-holds}
 
@@ -101,8 +104,12 @@ module _ (w : List ℕ) (bytes : ℕ) where
         counts-wrong e = left-to false (and-fails (flagsLegal w && countsLegal w) _ (sym told ∙ e))
 
         module _ (holds : t ≡ true) where
-          pub table-decides : (r : Bool) → r ≡ tableLegal (tableOf w) (index w) → r ≡ wellFormed w bytes
-          table-decides r e = left-to r (and-holds r (flagsLegal w && countsLegal w) _ (sym told ∙ holds) e)
+          table-decides : tableLegal (tableOf w) (index w) ≡ wellFormed w bytes
+          table-decides = left-to _ (and-holds _ (flagsLegal w && countsLegal w) _ (sym told ∙ holds) refl)
+
+          pub table-seen : (seen : LabelSeen) {r : TableSeen} → r ≡ judged (tableLegal (tableOf w) (index w)) seen →
+              r ≡ judged (wellFormed w bytes) seen
+          table-seen seen e = e ∙ ap (λ (t : Bool). judged t seen) table-decides
 
           pub header-legal : HeaderLegal l w
           header-legal =
@@ -116,6 +123,7 @@ module _ (w : List ℕ) (bytes : ℕ) where
                 bodies-few = legal .bodies-few;
                 cap-small = cap-small l bytes (length w) legal;
                 size-within = legal .size-within;
+                total-small = legal .total-small;
                 words-enough = legal .words-enough;
                 chance-single = leb-true _ _ (and-right (leb (ttlSet w) 1) _ flags);
                 records-fit = rw is (leb-true _ _ (and-left few _ counts));

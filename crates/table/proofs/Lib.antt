@@ -11,4 +11,6 @@ pub mod Counted
 pub mod Passes
 pub mod WordsPasses
 pub mod Lookups
+pub mod Watched
+pub mod LiveWatch
 pub mod FoundLabels

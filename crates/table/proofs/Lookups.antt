@@ -16,10 +16,9 @@ use Rattle.table.specs.declared.RecordFound.{RecordFound}
 use Rattle.table.specs.declared.RecordFound.the-variants as Record
 use Rattle.table.specs.declared.LabelFound.{LabelFound}
 use Rattle.table.specs.declared.LabelFound.the-variants as Label
-use Rattle.table.specs.declared.EntryFound.the-variants as Found
 use Rattle.table.specs.Layout.{entriesAt}
 use Rattle.table.specs.Table.{entryAt, recordAt, entriesFrom, recordsFrom}
-use Rattle.table.specs.Reads.{recordOf, labelIn, countIn, labelOf, countOf, isLive, liveCount, nthOf}
+use Rattle.table.specs.Reads.{recordOf, labelIn, countIn, labelOf, countOf, isLive, liveCount}
 use Rattle.table.proofs.Words.{records-none, records-first, entries-none, entries-first}
 
 -- Looking for a key: the record that is found is among the `left` ones from word p on.
@@ -134,40 +133,3 @@ module _ {w : List ℕ} {ttl : Ttl} {clock label entries live p left : ℕ}
     not-counted h =
         let n = rw h at next in
         record { within = omega (arith, inv .within); few = omega (arith, inv .few); rest = omega (arith, inv .rest) }
-
--- Looking for the k-th entry of a label: it is the one with `before` of them before it, among the `left` ones.
-pub record EntrySought (w : List ℕ) (label k entries before p left : ℕ) : Type 0 where
-  -- they lie within the words
-  pub within : p + entryWords * left ≤ length w
-  -- none of those passed is it
-  pub same : nthOf label k (entriesFrom w entriesAt entries) ≡ nthOf label before (entriesFrom w p left)
-
-pub all-entries : (w : List ℕ) (label k entries : ℕ) → headerWords + entryWords * entries ≤ length w →
-    EntrySought w label k entries k headerWords entries
-all-entries w label k entries h = record { within = h; same = refl }
-
-module _ {w : List ℕ} {label k entries before p left : ℕ} (inv : EntrySought w label k entries before p left) where
-  pub entry-absent : left ≤ 0 → Found.Nothing ≡ nthOf label k (entriesFrom w entriesAt entries)
-  unfolding nthOf
-  entry-absent h = sym (inv .same ∙ ap (nthOf label before) (entries-none w p left h))
-
-  module _ (e : Entry) (some : 0 < left) (is : e ≡ entryAt w p) where
-    pub entry-found : label ≡ e .label → before ≡ 0 → Found.At e ≡ nthOf label k (entriesFrom w entriesAt entries)
-    unfolding nthOf
-    entry-found h z =
-        sym (inv .same ∙ rw (entries-first w p left some e is, eq-eqb label (e .label) h, eq-eqb before 0 z))
-
-    pub entry-before : label ≡ e .label → (before ≡ 0 → ⊥) →
-        EntrySought w label k entries (before - 1) (p + entryWords) (left - 1)
-    unfolding nthOf
-    entry-before h z = record {
-      within = omega (arith, inv .within);
-      same = inv .same ∙ rw (entries-first w p left some e is, eq-eqb label (e .label) h, ne-eqb before 0 z);
-    }
-
-    pub entry-of-other : (label ≡ e .label → ⊥) → EntrySought w label k entries before (p + entryWords) (left - 1)
-    unfolding nthOf
-    entry-of-other h = record {
-      within = omega (arith, inv .within);
-      same = inv .same ∙ rw (entries-first w p left some e is, ne-eqb label (e .label) h);
-    }

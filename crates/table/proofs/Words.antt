@@ -2,6 +2,7 @@
 use mathlib.Core.Path.{_≡_, refl, sym, ap, _∙_}
 use mathlib.Core.List.{List, [], _∷_}
 use Prim.Native.Nat.{ℕ, zero, suc, _+_, _*_, _-_, _≤_, _<_}
+use native.Mathlib.Nat.{suc-add}
 use native.Mathlib.Omega.{arith}
 use lib.ListN.{length, take, drop}
 use lib.Seq.{getD-take, getD-drop}
@@ -93,6 +94,12 @@ key-word w p (suc k) zero h = let e : p + recordWords * zero ≡ p = omega arith
 key-word w p (suc k) (suc i) h =
     let e : p + recordWords + recordWords * i ≡ p + recordWords * suc i = omega arith in
     key-word w (p + recordWords) k i (omega arith) ∙ ap (word w) e
+
+-- the first of the records
+pub first-records : (w : List ℕ) (p n c : ℕ) → take n (recordsFrom w p (n + c)) ≡ recordsFrom w p n
+unfolding recordsFrom
+first-records w p zero c = refl
+first-records w p (suc n) c = rw (suc-add n c, first-records w (p + recordWords) n c)
 
 -- the records behind the first n
 pub records-behind : (w : List ℕ) (p n k : ℕ) →

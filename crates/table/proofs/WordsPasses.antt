@@ -13,7 +13,11 @@ use Rattle.table.specs.Layout.{limitsOf, totalWord, heldCount, entryCoun
 use Rattle.table.specs.Table.{tableOf, index, records, entriesFrom, recordsFrom, indexFrom}
 use Rattle.table.specs.WellFormed.{indexRises, tableLegal}
 use Rattle.table.specs.Passes.{HeaderLegal, recordsPass, allowedBy, Allowed, KeysSmall, firstLabel, entriesPass}
-use Rattle.table.proofs.Words.{length-entries, length-records, length-index, records-behind}
+use Rattle.table.specs.declared.Sought.{Sought}
+use Rattle.table.specs.declared.TableSeen.{TableSeen}
+use Rattle.table.specs.declared.watch.Watch.{Watch}
+use Rattle.table.specs.Watch.{watchFor, watchIn, seenBy, judged}
+use Rattle.table.proofs.Words.{length-entries, length-records, length-index, first-records, records-behind}
 use Rattle.table.proofs.Counted.{first-says}
 use Rattle.table.proofs.Passes.{noAllowance, passes, passes-legal}
 
@@ -87,7 +91,25 @@ module _ (l : PendingFlowsConfig) (w : List ℕ) (header : HeaderLegal l w) (fro
       pub index-wrong : u ≡ false → false ≡ tableLegal (tableOf w) (index w)
       index-wrong e = left-to false (and-fails _ _ (sym told ∙ e))
 
-      pub entries-decide : u ≡ true → (out : ℕ) → out ≡ firstLabel handed → (r : Bool) → r ≡ entries-test allow out →
-          r ≡ tableLegal (tableOf w) (index w)
-      entries-decide e out o r f =
-          left-to r (and-holds r _ _ (sym told ∙ e) (f ∙ rw (passed .filled right, o)))
+      module _ (rises : u ≡ true) (out : ℕ) (handed-out : out ≡ firstLabel handed) where
+        entries-decide : entries-test allow out ≡ tableLegal (tableOf w) (index w)
+        entries-decide =
+            left-to (entries-test allow out)
+            (and-holds _ _ _ (sym told ∙ rises) (rw (passed .filled right, handed-out)))
+
+        module _ (s : Sought) {v : Watch} (watch : v ≡ watchFor (recordsFrom w from (heldCount w)) (l .ttl) out s) where
+          watch-right : v ≡ watchIn (tableOf w) s
+          watch-right =
+              watch
+              ∙ rw (
+                handed-out,
+                there,
+                header .limits-read,
+                first-records w (recordsAt (limitsOf w)) (heldCount w) (chanceCount w),
+                records-behind w (recordsAt (limitsOf w)) (heldCount w) (chanceCount w),
+              )
+
+          pub entries-seen : {r : TableSeen} →
+              r ≡ judged (entries-test allow out) (seenBy v (entriesFrom w entriesAt (entryCount w))) →
+              r ≡ judged (tableLegal (tableOf w) (index w)) (seenBy (watchIn (tableOf w) s) (tableOf w .entries))
+          entries-seen h = h ∙ rw (entries-decide, watch-right)

@@ -3,3 +3,4 @@ pub mod Table
 pub mod WellFormed
 pub mod Passes
 pub mod Reads
+pub mod Watch

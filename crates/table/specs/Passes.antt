@@ -19,6 +19,7 @@ pub record HeaderLegal (l : PendingFlowsConfig) (w : List ℕ) : Type 0 where
   pub bodies-few : maxBodies l ≤ 262144
   pub cap-small : l .«max_entries_per_template» ≤ 262144
   pub size-within : l .«max_entry_size_bytes» ≤ l .«max_total_bytes»
+  pub total-small : l .«max_total_bytes» ≤ 67108864
   pub words-enough : wordsNeeded l ≤ length w
   pub chance-single : chanceCount w ≤ 1
   pub records-fit : heldCount w + chanceCount w ≤ l .«max_pending_flows»

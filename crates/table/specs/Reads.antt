@@ -1,7 +1,7 @@
 -- What is read off the records and entries of a table.
 use mathlib.Core.List.{List, [], _∷_}
 use mathlib.Core.Bool.{Bool, not, _&&_, cond}
-use Prim.Native.Nat.{ℕ, _+_, _-_}
+use Prim.Native.Nat.{ℕ, _+_}
 use lib.Dec.{eqb}
 use Rattle.config.specs.declared.Ttl.{Ttl}
 use Rattle.config.specs.Age.{expiredAt}
@@ -11,8 +11,6 @@ use Rattle.table.specs.declared.RecordFound.{RecordFound}
 use Rattle.table.specs.declared.RecordFound.the-variants as Record
 use Rattle.table.specs.declared.LabelFound.{LabelFound}
 use Rattle.table.specs.declared.LabelFound.the-variants as Label
-use Rattle.table.specs.declared.EntryFound.{EntryFound}
-use Rattle.table.specs.declared.EntryFound.the-variants as Found
 
 -- the record with a key
 unfoldable pub recordOf : ℕ → List TemplateRecord → RecordFound
@@ -56,9 +54,3 @@ liveCount ttl now label (e ∷ es) = cond (isLive ttl now label e) 1 0 + liveCou
 unfoldable pub countSum : List TemplateRecord → ℕ
 countSum [] = 0
 countSum (r ∷ rs) = r .count + countSum rs
-
--- the k-th entry of a label, from 0
-unfoldable pub nthOf : ℕ → ℕ → List Entry → EntryFound
-nthOf label k [] = Found.Nothing
-nthOf label k (e ∷ es) =
-    cond (eqb label (e .label)) (cond (eqb k 0) (Found.At e) (nthOf label (k - 1) es)) (nthOf label k es)

@@ -1,5 +1,5 @@
 // The test behind number 28: whether the words, beside so many bytes, hold a well-formed table. It is linear: one pass
-// over the records, one along the index, one over the entries.
+// over the records, one along the index, one over the entries. The last also watches the entries that a query is about.
 ghost use mathlib.Core.Path.{_≡_};
 ghost use mathlib.Core.Bool.{_&&_};
 ghost use Prim.Native.Nat.{_+_, _*_, _<_, _≤_};
@@ -10,8 +10,11 @@ ghost use Rattle.table.specs.Table.{entriesFrom, recordsFrom, indexFrom,
 ghost use Rattle.table.specs.WellFormed.{flagsLegal, countsLegal, indexRises, tableLegal, wellFormed};
 ghost use Rattle.table.specs.Passes.{HeaderLegal, recordFresh, Allowed, KeysSmall, firstLabel};
 ghost use Rattle.table.specs.Passes.{entryFits, heldLen, entriesPass};
+ghost use Rattle.table.specs.Watch.{watchIn, seenBy, judged, examined};
 use super::Entry;
 use super::LABELS;
+use super::Sought;
+use super::TableSeen;
 use super::TemplateRecord;
 use super::layout::CHANCE_COUNT;
 use super::layout::ENTRY_COUNT;
@@ -23,6 +26,11 @@ use super::layout::entry_at;
 use super::layout::limits_at;
 use super::layout::record_at;
 use super::layout::records_at;
+use super::watch::Passed;
+use super::watch::Watch;
+use super::watch::label_seen;
+use super::watch::pass_entry;
+use super::watch::watch_for;
 use config::ConfigAnswer;
 use config::ENTRY_WORDS;
 use config::HEADER_WORDS;
@@ -122,7 +130,7 @@ fn handed_label(words: &[u64], p: usize, chance: usize) -> u64
 
 // Whether a body is within the entry size, begins at `end` or above, and ends within the total.
 fn entry_fits(entry: Entry, max_size: u64, max_total: u64, end: u64) -> bool
-    requires { ⌜ «max_size» ≤ «max_total» ⌝ }
+    requires { ⌜ («max_size» ≤ «max_total») × («max_total» ≤ 67108864) ⌝ }
     ensures { λ r. ⌜ r ≡ entryFits «max_size» «max_total» end entry ⌝ }
 {
     if max_size < entry.len {
@@ -131,7 +139,10 @@ fn entry_fits(entry: Entry, max_size: u64, max_total: u64, end: u64) -> bool
     if entry.place < end {
         return false;
     }
-    entry.place <= max_total - entry.len
+    if max_total < entry.place {
+        return false;
+    }
+    entry.place + entry.len <= max_total
 }
 
 // What an entry adds to the total: nothing where it is handed out.
@@ -141,7 +152,8 @@ fn held_len(entry: Entry, out: u64) -> u64
     if entry.label == out { 0 } else { entry.len }
 }
 
-// The pass over the entries: each takes one of its label's allowance, and bodies follow one another.
+// The pass over the entries: each takes one of its label's allowance, and bodies follow one another. What is watched is
+// seen on the way.
 fn entries_pass(
     words: &[u64],
     allow: &mut [u32; LABELS],
@@ -150,42 +162,52 @@ fn entries_pass(
     max_total: u64,
     out: u64,
     total: u64,
-) -> bool
-    requires { ⌜ (entriesAt + entryWords * entries ≤ length (now words)) × («max_size» ≤ «max_total») ⌝ }
+    watch: Watch,
+) -> TableSeen
+    requires { ⌜ entriesAt + entryWords * entries ≤ length (now words) ⌝ }
+    requires { ⌜ («max_size» ≤ «max_total») × («max_total» ≤ 67108864) ⌝ }
     ensures { λ r.
-        ⌜ r ≡ entriesPass «max_size» «max_total» out total 0 (now (allow .entry)) 0
-        (entriesFrom (now (words .entry)) entriesAt entries) ⌝ }
+        ⌜ r ≡ judged (entriesPass «max_size» «max_total» out total 0 (now (allow .entry)) 0
+        (entriesFrom (now (words .entry)) entriesAt entries))
+        (seenBy watch (entriesFrom (now (words .entry)) entriesAt entries)) ⌝ }
 {
     let mut end: u64 = 0;
     let mut held: u64 = 0;
+    let mut passed = Passed { live: 0, left: 0 };
     let mut entries_left = entries;
     let mut p = HEADER_WORDS;
     while entries_left > 0 {
         let entry = entry_at(words, p);
         if (LABELS as u64) <= entry.label {
-            return false;
+            return TableSeen::Damaged;
         }
         let label = entry.label as usize;
         let allowed = allow[label];
         if allowed == 0 {
-            return false;
+            return TableSeen::Damaged;
         }
         if !entry_fits(entry, max_size, max_total, end) {
-            return false;
+            return TableSeen::Damaged;
         }
         allow[label] = allowed - 1;
         end = entry.place + entry.len;
         held += held_len(entry, out);
+        passed = pass_entry(words, p, entry, entries_left, passed, watch);
         entries_left -= 1;
         p += ENTRY_WORDS;
     }
-    held == total
+    if held != total {
+        return TableSeen::Damaged;
+    }
+    TableSeen::WellFormed(label_seen(words, entries, passed, watch.nth))
 }
 
-// Whether the records, the index and the entries are well formed, by the three passes.
-fn table_legal(words: &[u64], limits: PendingFlowsConfig) -> bool
+// Tests the records, the index and the entries by the three passes, and looks for what is sought.
+fn examine_table(words: &[u64], limits: PendingFlowsConfig, sought: Sought) -> TableSeen
     requires { ⌜ HeaderLegal limits (now words) ⌝ }
-    ensures { λ r. ⌜ r ≡ tableLegal (tableOf (now (words .entry))) (index (now (words .entry))) ⌝ }
+    ensures { λ r.
+        ⌜ r ≡ judged (tableLegal (tableOf (now (words .entry))) (index (now (words .entry))))
+        (seenBy (watchIn (tableOf (now (words .entry))) sought) (tableOf (now (words .entry)) .entries)) ⌝ }
 {
     let from = records_at(limits);
     let held = words[HELD_COUNT] as usize;
@@ -195,14 +217,16 @@ fn table_legal(words: &[u64], limits: PendingFlowsConfig) -> bool
     let cap = limits.max_entries_per_template as u64;
     let mut allow = [0u32; LABELS];
     if !records_pass(words, &mut allow, from, records, cap, entries) {
-        return false;
+        return TableSeen::Damaged;
     }
     if !index_rises(words, from, records) {
-        return false;
+        return TableSeen::Damaged;
     }
     let max_size = limits.max_entry_size_bytes as u64;
     let max_total = limits.max_total_bytes as u64;
     let out = handed_label(words, from + RECORD_WORDS * held, chance);
+    let ttl = limits.ttl;
+    let watch = watch_for(words, from, held, ttl, out, sought);
     entries_pass(
         words,
         &mut allow,
@@ -211,6 +235,7 @@ fn table_legal(words: &[u64], limits: PendingFlowsConfig) -> bool
         max_total,
         out,
         words[TOTAL],
+        watch,
     )
 }
 
@@ -234,19 +259,29 @@ fn counts_legal(words: &[u64], limits: PendingFlowsConfig) -> bool
     words[ENTRY_COUNT] <= templates * (limits.max_entries_per_template as u64)
 }
 
+// Whether the words, beside so many bytes, hold a well-formed table, and what is seen of what is sought in it.
+pub fn examine(words: &[u64], bytes_len: usize, sought: Sought) -> TableSeen
+    ensures { λ r. ⌜ r ≡ examined (now (words .entry)) «bytes_len» sought ⌝ }
+{
+    if words.len() < HEADER_WORDS {
+        return TableSeen::Damaged;
+    }
+    let limits = limits_at(words);
+    let ConfigAnswer::Accepted = validate_config(limits, bytes_len, words.len()) else {
+        return TableSeen::Damaged;
+    };
+    if !counts_legal(words, limits) {
+        return TableSeen::Damaged;
+    }
+    examine_table(words, limits, sought)
+}
+
 // Whether the words, beside so many bytes, hold a well-formed table; number 28 answers where they do not.
 pub fn well_formed(words: &[u64], bytes_len: usize) -> bool
     ensures { λ r. ⌜ r ≡ wellFormed (now (words .entry)) «bytes_len» ⌝ }
 {
-    if words.len() < HEADER_WORDS {
-        return false;
-    }
-    let limits = limits_at(words);
-    let ConfigAnswer::Accepted = validate_config(limits, bytes_len, words.len()) else {
+    let TableSeen::WellFormed(_) = examine(words, bytes_len, Sought::Nothing) else {
         return false;
     };
-    if !counts_legal(words, limits) {
-        return false;
-    }
-    table_legal(words, limits)
+    true
 }

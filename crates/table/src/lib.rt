@@ -2,7 +2,9 @@
 mod check;
 mod layout;
 mod reads;
+mod watch;
 
+pub use check::examine;
 pub use check::well_formed;
 pub use layout::CACHED;
 pub use layout::CHANCE_COUNT;
@@ -17,9 +19,7 @@ pub use layout::records_at;
 pub use reads::count_in;
 pub use reads::count_of;
 pub use reads::label_for;
-pub use reads::label_of;
 pub use reads::live_count;
-pub use reads::nth_of;
 pub use reads::record_of;
 
 // A body: its template's label, its place and length in the byte area, and the clock reading of its offer.
@@ -53,6 +53,28 @@ pub enum LabelFound {
 pub enum EntryFound {
     At(Entry),
     Nothing,
+}
+
+// What is looked for while a table is tested.
+pub enum Sought {
+    Nothing,
+    // the bodies of a held id that are not expired at a clock reading, to be counted
+    Live { id: u64, clock: u64 },
+    // the handed-out body with this number, from 0
+    HandedOut(usize),
+}
+
+// What was seen of the entries that are looked for: how many there are, and the one with the number, if any.
+pub struct LabelSeen {
+    pub live: usize,
+    pub found: EntryFound,
+}
+
+// A table that was tested.
+pub enum TableSeen {
+    WellFormed(LabelSeen),
+    // number 28
+    Damaged,
 }
 
 // Every label is below this.

@@ -5,9 +5,8 @@ ghost use lib.ListN.{length};
 ghost use Rattle.config.specs.Limits.{headerWords, recordWords, entryWords};
 ghost use Rattle.table.specs.Layout.{entriesAt};
 ghost use Rattle.table.specs.Table.{entriesFrom, recordsFrom};
-ghost use Rattle.table.specs.Reads.{recordOf, countIn, labelOf, labelOrNone, countOf, isLive, liveCount, nthOf};
+ghost use Rattle.table.specs.Reads.{recordOf, countIn, labelOf, labelOrNone, countOf, isLive, liveCount};
 use super::Entry;
-use super::EntryFound;
 use super::LABELS;
 use super::LabelFound;
 use super::RecordFound;
@@ -38,7 +37,7 @@ pub fn record_of(words: &[u64], from: usize, records: usize, key: u64) -> Record
 }
 
 // The label of the record with this key.
-pub fn label_of(words: &[u64], from: usize, records: usize, key: u64) -> LabelFound
+fn label_of(words: &[u64], from: usize, records: usize, key: u64) -> LabelFound
     requires { ⌜ from + recordWords * records ≤ length (now words) ⌝ }
     ensures { λ r. ⌜ r ≡ labelOf key (recordsFrom (now (words .entry)) from records) ⌝ }
 {
@@ -104,26 +103,4 @@ pub fn live_count(words: &[u64], entries: usize, label: u64, ttl: Ttl, clock: u6
         p += ENTRY_WORDS;
     }
     live
-}
-
-// The k-th of the entries that have this label, from 0.
-pub fn nth_of(words: &[u64], entries: usize, label: u64, k: usize) -> EntryFound
-    requires { ⌜ headerWords + entryWords * entries ≤ length (now words) ⌝ }
-    ensures { λ r. ⌜ r ≡ nthOf label k (entriesFrom (now (words .entry)) entriesAt entries) ⌝ }
-{
-    let mut before = k;
-    let mut left = entries;
-    let mut p = HEADER_WORDS;
-    while left > 0 {
-        let entry = entry_at(words, p);
-        if label == entry.label {
-            if before == 0 {
-                return EntryFound::At(entry);
-            }
-            before -= 1;
-        }
-        left -= 1;
-        p += ENTRY_WORDS;
-    }
-    EntryFound::Nothing
 }

@@ -1,42 +1,44 @@
-use Rattle.pending_flows.proofs.Questions.{well-formed}
-use Rattle.pending_flows.proofs.HandedOut.{not-handed-out, handed-out-at, place-damaged}
 use borrow.Author.Needs.{needs}
+use Rattle.pending_flows.proofs.HandedOut.{place-damaged, not-handed-out, handed-out-at}
 use Rattle.pending_flows.proofs.handed_out.place_handed_out.Statement.{statement}
 use Rattle.pending_flows.proofs.handed_out.place_handed_out.Tie as tie
+use Rattle.pending_flows.proofs.handed_out.place_handed_out.Reads as reads
+use Rattle.pending_flows.proofs.handed_out.place_handed_out.Lts as lts
+use Rattle.table.proofs.examine.Reads as examine-reads
 
-well-formed-requires : tie.Need-well-formed-requires
-well-formed-requires c κs = search needs
+examine-requires : tie.Need-examine-requires
+examine-requires c κs = search needs
 
-find-handed-out-requires : tie.Need-find-handed-out-requires
-find-handed-out-requires c κs = search (well-formed, needs)
-
-enum-known-entry : tie.Need-enum-known-entry
-enum-known-entry c = search needs
+enum-known-seen : tie.Need-enum-known-seen
+enum-known-seen c = search needs
 
 enum-told : tie.Need-enum-told
 enum-told c = search needs
 
 returns : tie.Need-returns
-returns c = not-handed-out _ _ _ (c .before .before .before .before .well-formed .ensures)
-    (c .before .before .before .if1 .taken) (c .before .before .find-handed-out .ensures)
-    (c .enum-told .given .1)
+returns c = search (place-damaged, needs)
+
+enum-known-found : tie.Need-enum-known-found
+enum-known-found c = search needs
+
+enum-told-2 : tie.Need-enum-told-2
+enum-told-2 c = search needs
 
 returns-2 : tie.Need-returns-2
-returns-2 c = handed-out-at _ _ _ (c .before .before .before .before .before .well-formed .ensures)
-    (c .before .before .before .before .if1 .taken) (c .before .before .before .find-handed-out .ensures)
-    _ (c .before .entry .given .1)
+returns-2 c = search (not-handed-out, needs)
 
 returns-3 : tie.Need-returns-3
-returns-3 c = search (place-damaged, needs)
+returns-3 c = search (handed-out-at, needs)
 
 pub place-handed-out-spec : {M : Type 1} → statement M
 place-handed-out-spec =
     tie.close
     (tie.spec
-    well-formed-requires
-    find-handed-out-requires
-    enum-known-entry
+    examine-requires
+    enum-known-seen
     enum-told
     returns
+    enum-known-found
+    enum-told-2
     returns-2
     returns-3)

@@ -2,26 +2,30 @@ use borrow.Author.Needs.{needs}
 use borrow.Author.Tests.{not-true, not-false}
 use native.Mathlib.Omega.{arith}
 use Rattle.table.proofs.EntriesPass.{EntriesPassed, no-entry-passed, large-label, none-left, misplaced}
-use Rattle.table.proofs.EntriesPass.{end-fits, entry-passed, entries-passed}
+use Rattle.table.proofs.EntriesPass.{end-fits, held-fits, entry-passed, total-wrong, total-right}
+use Rattle.table.proofs.Watched.{Watched, none-watched, entry-watched, all-watched, damaged, shown}
 use Rattle.table.proofs.check.entries_pass.Statement.{statement}
 use Rattle.table.proofs.check.entries_pass.Tie as tie
 
 abbrev Inv-loop : tie.InvT-loop
-Inv-loop words allow₀ entries max-size max-total out total end₀ held₀ entries-left₀ p₀ allow end held entries-left p =
-    EntriesPassed words entries max-size max-total out total allow₀ allow end held entries-left p
+Inv-loop words allow₀ entries max-size max-total out total watch end₀ held₀ passed₀ entries-left₀ p₀ allow end held
+    passed entries-left p =
+    EntriesPassed words entries max-size max-total out total allow₀ allow end held entries-left p ×
+    Watched words watch entries passed entries-left p
 
 abbrev μ-loop : tie.MeasureT-loop
-μ-loop words allow₀ entries max-size max-total out total end₀ held₀ entries-left₀ p₀ allow end held entries-left p =
+μ-loop words allow₀ entries max-size max-total out total watch end₀ held₀ passed₀ entries-left₀ p₀ allow end held
+    passed entries-left p =
     entries-left
 
 loop-holds : tie.Need-loop-holds Inv-loop μ-loop
-loop-holds c = no-entry-passed _ _ _ _ _ _ _
+loop-holds c = (no-entry-passed _ _ _ _ _ _ _, none-watched _ _ _)
 
 entry-at-requires : tie.Need-entry-at-requires Inv-loop μ-loop
 entry-at-requires c κs = search needs
 
 returns : tie.Need-returns Inv-loop μ-loop
-returns c = search (large-label, needs)
+returns c = search (damaged, large-label, needs)
 
 mul-allowed : tie.Need-mul-allowed Inv-loop μ-loop
 mul-allowed c = search needs
@@ -30,13 +34,13 @@ element-copy-out-allowed : tie.Need-element-copy-out-allowed Inv-loop μ-loop
 element-copy-out-allowed c = search needs
 
 returns-2 : tie.Need-returns-2 Inv-loop μ-loop
-returns-2 c = search (none-left, needs)
+returns-2 c = search (damaged, none-left, needs)
 
 entry-fits-requires : tie.Need-entry-fits-requires Inv-loop μ-loop
 entry-fits-requires c κs = search needs
 
 returns-3 : tie.Need-returns-3 Inv-loop μ-loop
-returns-3 c = search (misplaced, not-true, needs)
+returns-3 c = search (damaged, misplaced, not-true, needs)
 
 sub-allow : tie.Need-sub-allow Inv-loop μ-loop
 sub-allow c = search needs
@@ -54,10 +58,13 @@ held-len-requires : tie.Need-held-len-requires Inv-loop μ-loop
 held-len-requires c κs = search needs
 
 loop-again : tie.Need-loop-again Inv-loop μ-loop
-loop-again c = search (entry-passed, not-false, needs)
+loop-again c = (search (entry-passed, not-false, needs), search (entry-watched, needs))
 
 add-held : tie.Need-add-held Inv-loop μ-loop
-add-held c = omega (arith, loop-again c)
+add-held c = record { fits = search (held-fits, not-false, needs) }
+
+pass-entry-requires : tie.Need-pass-entry-requires Inv-loop μ-loop
+pass-entry-requires c κs = ((search needs, search needs), search needs)
 
 sub-entries-left : tie.Need-sub-entries-left Inv-loop μ-loop
 sub-entries-left c = search needs
@@ -69,7 +76,13 @@ loop-less : tie.Need-loop-less Inv-loop μ-loop
 loop-less c = search needs
 
 returns-4 : tie.Need-returns-4 Inv-loop μ-loop
-returns-4 c = search (entries-passed, needs)
+returns-4 c = search (damaged, total-wrong, needs)
+
+label-seen-requires : tie.Need-label-seen-requires Inv-loop μ-loop
+label-seen-requires c κs = search needs
+
+returns-5 : tie.Need-returns-5 Inv-loop μ-loop
+returns-5 c = search (shown, total-right, all-watched, needs)
 
 pub entries-pass-spec : {M : Type 1} → statement M
 entries-pass-spec =
@@ -91,8 +104,11 @@ entries-pass-spec =
     add-end
     held-len-requires
     add-held
+    pass-entry-requires
     sub-entries-left
     add-p
     loop-less
     loop-again
-    returns-4)
+    returns-4
+    label-seen-requires
+    returns-5)

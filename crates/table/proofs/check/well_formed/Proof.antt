@@ -1,18 +1,10 @@
 use borrow.Author.Needs.{needs}
-use borrow.Author.Tests.{not-true, not-false}
-use Rattle.table.proofs.Header.{short-header, limits-refused, has-template, few-bodies, counts-wrong}
-use Rattle.table.proofs.Header.{header-legal, table-decides}
+use Rattle.table.proofs.Watched.{is-damaged, is-legal}
 use Rattle.table.proofs.check.well_formed.Statement.{statement}
 use Rattle.table.proofs.check.well_formed.Tie as tie
 
-returns : tie.Need-returns
-returns c = search (short-header, needs)
-
-limits-at-requires : tie.Need-limits-at-requires
-limits-at-requires c κs = search needs
-
-validate-config-requires : tie.Need-validate-config-requires
-validate-config-requires c κs = search needs
+examine-requires : tie.Need-examine-requires
+examine-requires c κs = search needs
 
 enum-told : tie.Need-enum-told
 enum-told c = search needs
@@ -20,32 +12,11 @@ enum-told c = search needs
 enum-told-2 : tie.Need-enum-told-2
 enum-told-2 c = search needs
 
+returns : tie.Need-returns
+returns c = search (is-damaged, needs)
+
 returns-2 : tie.Need-returns-2
-returns-2 c = search (limits-refused, needs)
-
-counts-legal-requires : tie.Need-counts-legal-requires
-counts-legal-requires c κs = search (has-template, few-bodies, needs)
-
-returns-3 : tie.Need-returns-3
-returns-3 c = search (counts-wrong, not-true, needs)
-
-table-legal-requires : tie.Need-table-legal-requires
-table-legal-requires c κs = search (header-legal, not-false, needs)
-
-returns-4 : tie.Need-returns-4
-returns-4 c = search (table-decides, not-false, needs)
+returns-2 c = search (is-legal, needs)
 
 pub well-formed-spec : {M : Type 1} → statement M
-well-formed-spec =
-    tie.close
-    (tie.spec
-    returns
-    limits-at-requires
-    validate-config-requires
-    enum-told
-    enum-told-2
-    returns-2
-    counts-legal-requires
-    returns-3
-    table-legal-requires
-    returns-4)
+well-formed-spec = tie.close (tie.spec examine-requires enum-told enum-told-2 returns returns-2)

@@ -1,8 +1,9 @@
 use borrow.Author.Needs.{needs}
 use borrow.Author.Tests.{not-true, not-false}
-use Rattle.table.proofs.WordsPasses.{keys-small, records-wrong, index-wrong, entries-decide}
-use Rattle.table.proofs.check.table_legal.Statement.{statement}
-use Rattle.table.proofs.check.table_legal.Tie as tie
+use Rattle.table.proofs.WordsPasses.{keys-small, records-wrong, index-wrong, entries-seen}
+use Rattle.table.proofs.Watched.{damaged}
+use Rattle.table.proofs.check.examine_table.Statement.{statement}
+use Rattle.table.proofs.check.examine_table.Tie as tie
 
 records-at-requires : tie.Need-records-at-requires
 records-at-requires c κs = search needs
@@ -23,14 +24,14 @@ records-pass-requires : tie.Need-records-pass-requires
 records-pass-requires c κs = search needs
 
 returns : tie.Need-returns
-returns c = search (records-wrong, not-true, needs)
+returns c = search (damaged, records-wrong, not-true, needs)
 
 index-rises-requires : tie.Need-index-rises-requires
 index-rises-requires c κs =
     (search needs, keys-small _ _ _ (c .before .records-pass .ensures) (not-false _ (c .if1 .left)))
 
 returns-2 : tie.Need-returns-2
-returns-2 c = search (index-wrong, not-true, not-false, needs)
+returns-2 c = search (damaged, index-wrong, not-true, not-false, needs)
 
 mul-handed-label : tie.Need-mul-handed-label
 mul-handed-label c = search needs
@@ -41,6 +42,9 @@ add-handed-label c = search needs
 handed-label-requires : tie.Need-handed-label-requires
 handed-label-requires c κs = search needs
 
+watch-for-requires : tie.Need-watch-for-requires
+watch-for-requires c κs = search needs
+
 shared-slice-read-entries-pass : tie.Need-shared-slice-read-entries-pass
 shared-slice-read-entries-pass c = search needs
 
@@ -48,10 +52,10 @@ entries-pass-requires : tie.Need-entries-pass-requires
 entries-pass-requires c κs = search needs
 
 returns-3 : tie.Need-returns-3
-returns-3 c = search (entries-decide, not-false, needs)
+returns-3 c = search (entries-seen, not-false, needs)
 
-pub table-legal-spec : {M : Type 1} → statement M
-table-legal-spec =
+pub examine-table-spec : {M : Type 1} → statement M
+examine-table-spec =
     tie.close
     (tie.spec
     records-at-requires
@@ -66,6 +70,7 @@ table-legal-spec =
     mul-handed-label
     add-handed-label
     handed-label-requires
+    watch-for-requires
     shared-slice-read-entries-pass
     entries-pass-requires
     returns-3)
