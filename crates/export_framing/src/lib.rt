@@ -21,6 +21,24 @@ fn export(answer: PreflightAnswer, cost: &mut [u64; 3]) -> u32
     }
 }
 
+// The preflight of a body in a reading, handed over: once for all three, so that the answer crosses without being stored.
+fn measure(
+    body: &[u8],
+    widths: &[u16],
+    reading: Reading,
+    max_records: usize,
+    cost: &mut [u64; 3],
+) -> u32
+    ensures { λ r.
+        ⌜ Preflights (now (body .entry)) (now (widths .entry)) reading «max_records» r
+        (now (cost .entry)) (now (cost .exit)) ⌝ }
+{
+    export(
+        output_preflight::preflight(body, widths, reading, max_records),
+        cost,
+    )
+}
+
 // The preflight of a NetFlow v9 body: 0 with the cost written, or 9, 12 or 7 with the words as they were.
 pub fn preflight_v9_fixed(
     body: &[u8],
@@ -32,10 +50,7 @@ pub fn preflight_v9_fixed(
         ⌜ Preflights (now (body .entry)) (now (widths .entry)) V9Fixed «max_records» r
         (now (cost .entry)) (now (cost .exit)) ⌝ }
 {
-    export(
-        output_preflight::preflight(body, widths, Reading::V9Fixed, max_records),
-        cost,
-    )
+    measure(body, widths, Reading::V9Fixed, max_records, cost)
 }
 
 // The same of an IPFIX body without variable-length fields.
@@ -49,10 +64,7 @@ pub fn preflight_ipfix_fixed(
         ⌜ Preflights (now (body .entry)) (now (widths .entry)) IpfixFixed «max_records» r
         (now (cost .entry)) (now (cost .exit)) ⌝ }
 {
-    export(
-        output_preflight::preflight(body, widths, Reading::IpfixFixed, max_records),
-        cost,
-    )
+    measure(body, widths, Reading::IpfixFixed, max_records, cost)
 }
 
 // The same of an IPFIX body in which fields of width 65,535 say their length themselves.
@@ -66,8 +78,5 @@ pub fn preflight_ipfix_variable(
         ⌜ Preflights (now (body .entry)) (now (widths .entry)) IpfixVariable «max_records» r
         (now (cost .entry)) (now (cost .exit)) ⌝ }
 {
-    export(
-        output_preflight::preflight(body, widths, Reading::IpfixVariable, max_records),
-        cost,
-    )
+    measure(body, widths, Reading::IpfixVariable, max_records, cost)
 }

@@ -1,6 +1,7 @@
 // The framing of a queued data-set body, and what decoding it would cost, before it is decoded (output_budget.rs).
 ghost use mathlib.Core.Path.{_≡_};
 ghost use Prim.Native.Nat.{_≤_, _<_};
+ghost use lib.ListN.{length};
 ghost use Rattle.wire.specs.Size.{leastSize};
 ghost use Rattle.output_scan.specs.Scan.{scanOf};
 ghost use Rattle.output_preflight.specs.Preflight.{numberOf, answerOf, figuresOf, costOf, preflightOf};
@@ -96,13 +97,13 @@ fn scan_body(
     reading: Reading,
     max_records: usize,
 ) -> Scanned
-    requires { ⌜ (least ≡ leastSize (now widths) reading) × (0 < least) ⌝ }
+    requires { ⌜ (length (now widths) ≤ 65535) × (least ≡ leastSize (now widths) reading) × (0 < least) ⌝ }
     ensures { λ r. ⌜ r ≡ scanOf (now (body .entry)) (now (widths .entry)) reading «max_records» ⌝ }
 {
     match reading {
         Reading::V9Fixed => scan_fixed_body(body.len(), least, max_records),
         Reading::IpfixFixed => scan_fixed_body(body.len(), least, max_records),
-        Reading::IpfixVariable => scan_variable_body(body, widths, max_records),
+        Reading::IpfixVariable => scan_variable_body(body, widths, least, max_records),
     }
 }
 

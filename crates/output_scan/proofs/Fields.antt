@@ -1,5 +1,5 @@
 -- A field at the front of the bytes, and the loop over the fields of a record. Assumes nothing.
-use mathlib.Core.Path.{_≡_, refl, ap, ap₂, sym, _∙_}
+use mathlib.Core.Path.{_≡_, refl, ap, ap₂, _∙_}
 use mathlib.Core.Bool.{Bool, true, false, cond}
 use mathlib.Core.List.{List, [], _∷_}
 use Prim.Native.Nat.{ℕ, _+_, _*_, _-_, _≤_, _<_}
@@ -12,9 +12,7 @@ use lib.Dec.{ltb, leb}
 use borrow.Author.Tests.{lt-ltb, le-ltb, leb-true}
 use Rattle.wire.specs.declared.Reading.{Reading}
 use Rattle.wire.specs.Size.{isVariable}
-use Rattle.output_scan.specs.declared.Span.{Span}
-use Rattle.output_scan.specs.declared.Span.the-variants.{Whole, Cut}
-use Rattle.output_scan.specs.Field.{spanOf, variableField, fieldOf}
+use Rattle.output_scan.specs.Field.{Span, Whole, Cut, spanOf, variableField, fieldOf}
 use Rattle.output_scan.specs.Scan.{behind, followedBy, fieldsOf}
 
 -- A field that says its length itself, by its first byte.
@@ -98,6 +96,9 @@ behind-behind a p s n Cut = refl
 pub tail-is-drop : (at : ℕ) (xs : List ℕ) → take (length xs - at) (drop at xs) ≡ drop at xs
 tail-is-drop at xs = take-all (length xs - at) (drop at xs) (omega (arith, length-drop at xs))
 
+pub tail-length : (at : ℕ) (xs : List ℕ) → length (take (length xs - at) (drop at xs)) ≡ length xs - at
+tail-length at xs = ap length (tail-is-drop at xs) ∙ length-drop at xs
+
 -- The loop over the fields of a record: i fields passed, in `at` bytes with `content` bytes of content.
 pub record FieldsPassed (bytes ws : List ℕ) (r : Reading) (at content i : ℕ) : Type 0 where
   -- no more fields than widths
@@ -114,37 +115,28 @@ no-field-passed bytes ws r =
     record { passed = omega arith; inside = omega arith; no-more-content = omega arith; left = behind-none _ }
 
 module _ {bytes ws : List ℕ} {r : Reading} {at content i : ℕ} (inv : FieldsPassed bytes ws r at content i) where
-  -- the field that is called for stands at the front of the rest
-  at-front : {x : Span} → x ≡ fieldOf (take (length bytes - at) (drop at bytes)) (getD ws i 0) r →
-      fieldOf (drop at bytes) (getD ws i 0) r ≡ x
-  at-front e = ap (λ (s : List ℕ). fieldOf s (getD ws i 0) r) (sym (tail-is-drop at bytes)) ∙ sym e
-
   next-field : {s n : ℕ} → i < length ws → fieldOf (drop at bytes) (getD ws i 0) r ≡ Whole s n →
       behind at content (fieldsOf (drop at bytes) (drop i ws) r)
       ≡ behind (at + s) (content + n) (fieldsOf (drop (at + s) bytes) (drop (i + 1) ws) r)
   unfolding fieldsOf
   next-field {s} {n} h e = rw (add-one, drop-cons ws i 0, e, drop-drop s at bytes, behind-behind)
 
-  pub field-passed : {x : Span} {s n : ℕ} → i < length ws →
-      x ≡ fieldOf (take (length bytes - at) (drop at bytes)) (getD ws i 0) r →
-      x ≡ Whole s n → FieldsPassed bytes ws r (at + s) (content + n) (i + 1)
-  field-passed h e f =
-      let whole = at-front e ∙ f in
-      let g = rw whole at (field-within (drop at bytes) (getD ws i 0) r) in
+  pub field-passed : {s n : ℕ} → i < length ws → fieldOf (drop at bytes) (getD ws i 0) r ≡ Whole s n →
+      FieldsPassed bytes ws r (at + s) (content + n) (i + 1)
+  field-passed h e =
+      let g = rw e at (field-within (drop at bytes) (getD ws i 0) r) in
       let d = length-drop at bytes in
       record {
         passed = omega arith;
         inside = omega arith;
         no-more-content = omega arith;
         left = inv .left
-            ∙ next-field h whole;
+            ∙ next-field h e;
       }
 
-  pub field-cut : {x : Span} → i < length ws → x ≡ fieldOf (take (length bytes - at) (drop at bytes))
-      (getD ws i 0) r →
-      x ≡ Cut → fieldsOf bytes ws r ≡ Cut
+  pub field-cut : i < length ws → fieldOf (drop at bytes) (getD ws i 0) r ≡ Cut → fieldsOf bytes ws r ≡ Cut
   unfolding fieldsOf
-  field-cut h e f = let cut = at-front e ∙ f in inv .left ∙ rw (drop-cons ws i 0, cut)
+  field-cut h e = inv .left ∙ rw (drop-cons ws i 0, e)
 
   pub all-passed : length ws ≤ i → fieldsOf bytes ws r ≡ Whole at content
   unfolding fieldsOf

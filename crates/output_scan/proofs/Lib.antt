@@ -1,3 +1,7 @@
 pub mod Fields
+pub mod Least
 pub mod Records
 pub mod Fixed
+pub mod Spare
+pub mod Layouts
+pub mod Alone

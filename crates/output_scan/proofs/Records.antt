@@ -5,16 +5,15 @@ use mathlib.Core.List.{List}
 use Prim.Native.Nat.{ℕ, zero, suc, _+_, _-_, _≤_, _<_}
 use native.Mathlib.Nat.{le-of-eq, sub-zero, pos-of-ne-zero}
 use native.Mathlib.Omega.{arith}
-use lib.ListN.{length, take, drop, length-drop}
+use lib.ListN.{length, drop, length-drop}
 use lib.Dec.{ltb}
 use borrow.Author.Tests.{lt-ltb, le-ltb, ltb-true}
 use Rattle.wire.specs.declared.Reading.{Reading}
-use Rattle.output_scan.specs.declared.Span.{Span}
-use Rattle.output_scan.specs.declared.Span.the-variants.{Whole, Cut}
 use Rattle.output_scan.specs.declared.Scanned.{Scanned}
+use Rattle.output_scan.specs.Field.{Span, Whole, Cut}
 use Rattle.output_scan.specs.Scan.{fieldsOf, consuming, recordOf, recordThen, recordsFrom, more, figures}
 use Rattle.output_scan.specs.Scan.{scanOf}
-use Rattle.output_scan.proofs.Fields.{Within, fields-within, tail-is-drop}
+use Rattle.output_scan.proofs.Fields.{Within, fields-within}
 
 -- a whole span has at least one byte
 abbrev TakesSome : Span → Type 0
@@ -115,11 +114,11 @@ module _ {body ws : List ℕ} {r : Reading} {limit : ℕ} {rest : List ℕ} {k p
       (s ≤ length rest) × (payload + n + (length rest - s) ≤ length body)
   record-bounds e = let h = rw e at (record-within rest ws r .0) in omega arith
 
-  pub record-passed : {s n : ℕ} → k < limit → recordOf rest ws r ≡ Whole s n →
-      RecordsPassed body ws r limit (take (length rest - s) (drop s rest)) (k + 1) (payload + n)
-  record-passed {s} {n} h e =
+  pub record-passed : {s n : ℕ} {next : List ℕ} → k < limit → recordOf rest ws r ≡ Whole s n → next ≡ drop s rest →
+      RecordsPassed body ws r limit next (k + 1) (payload + n)
+  record-passed {s} {n} h e f =
       let g = record-bounds e in
-      rw (tail-is-drop s rest)
+      rw f
       (record {
         few = omega arith;
         inside = omega (arith, length-drop s rest);
@@ -136,6 +135,10 @@ module _ {body ws : List ℕ} {r : Reading} {limit : ℕ} {rest : List ℕ} {k p
       ≡ record { records = k; payload = payload; remainder = length rest }
   at-limit h = let z : limit - k ≡ 0 = omega arith in inv .left
       ∙ rw (z, scan-none rest ws r) (same-figures (omega arith) (omega arith) refl)
+
+-- each record leaves fewer to come
+pub fewer-left : {k limit : ℕ} → k < limit → limit - (k + 1) < limit - k
+fewer-left h = omega arith
 
 -- no more records than bytes
 records-few : (bytes ws : List ℕ) (r : Reading) (k : ℕ) → scanOf bytes ws r k .records ≤ length bytes

@@ -6,8 +6,11 @@ use lib.ListN.{length, getD}
 use lib.Dec.{ltb, leb}
 use Rattle.wire.specs.declared.Reading.{Reading}
 use Rattle.wire.specs.Size.{isVariable}
-use Rattle.output_scan.specs.declared.Span.{Span}
-use Rattle.output_scan.specs.declared.Span.the-variants.{Whole, Cut}
+
+-- what a field takes of the bytes before it: its size with the length prefix, and its content without; or it is cut
+pub data Span : Type 0 where
+  Whole : ℕ → ℕ → Span
+  Cut : Span
 
 -- n bytes of content behind a prefix, at the front of so many bytes; cut where it runs past their end
 abbrev pub spanOf : ℕ → ℕ → ℕ → Span

@@ -1,2 +1,3 @@
 pub mod Field
+pub mod Layout
 pub mod Scan

@@ -5,10 +5,8 @@ use Prim.Native.Nat.{ℕ, zero, suc, _+_, _*_, _-_, _/_, min}
 use lib.ListN.{length, drop}
 use lib.Dec.{ltb}
 use Rattle.wire.specs.declared.Reading.{Reading}
-use Rattle.output_scan.specs.declared.Span.{Span}
-use Rattle.output_scan.specs.declared.Span.the-variants.{Whole, Cut}
 use Rattle.output_scan.specs.declared.Scanned.{Scanned}
-use Rattle.output_scan.specs.Field.{fieldOf}
+use Rattle.output_scan.specs.Field.{Span, Whole, Cut, fieldOf}
 
 -- a span behind one of so many bytes, n of them content
 abbrev pub behind : ℕ → ℕ → Span → Span

@@ -1,15 +1,12 @@
 // The whole records at the front of a body (output_budget.rs).
 ghost use mathlib.Core.Path.{_≡_};
-ghost use Prim.Native.Nat.{_≤_, _<_};
+ghost use Prim.Native.Nat.{_+_, _*_, _≤_, _<_};
+ghost use lib.ListN.{length, getD};
 ghost use Rattle.wire.specs.declared.Reading.the-variants.{IpfixVariable};
-ghost use Rattle.output_scan.specs.Field.{spanOf, variableField, fieldOf};
+ghost use Rattle.wire.specs.Size.{leastSize};
+ghost use Rattle.output_scan.specs.declared.Layout.the-variants.{One};
+ghost use Rattle.output_scan.specs.Layout.{hasVariable, layoutOf};
 ghost use Rattle.output_scan.specs.Scan.{scanOf, fixedScanOf};
-
-// What a field takes of the bytes before it: its size with the length prefix, and its content without; or it is cut.
-pub enum Span {
-    Whole { size: usize, content: usize },
-    Cut,
-}
 
 // A scan's figures: whole records, their payload without prefixes, and the bytes after the last of them.
 pub struct Scanned {
@@ -18,82 +15,180 @@ pub struct Scanned {
     pub remainder: usize,
 }
 
-// A field of `content` bytes behind a prefix, at the front of `available` bytes.
-fn span_of(prefix: usize, content: usize, available: usize) -> Span
-    requires { ⌜ (prefix ≤ 3) × (content ≤ 65535) ⌝ }
-    ensures { λ r. ⌜ r ≡ spanOf prefix content available ⌝ }
+// Which fields of a template say their length themselves.
+pub enum Layout {
+    // none
+    Fixed,
+    // one, behind so many bytes of other fields
+    One { lead: usize },
+    // more than one
+    Several,
+}
+
+// Whether a field says its length itself.
+fn has_variable(widths: &[u16]) -> bool
+    ensures { λ r. ⌜ r ≡ hasVariable (now (widths .entry)) ⌝ }
 {
-    if prefix + content <= available {
-        Span::Whole {
-            size: prefix + content,
-            content,
+    let mut i: usize = 0;
+    while i < widths.len() {
+        let width = widths[i];
+        if width == 65535 {
+            return true;
         }
-    } else {
-        Span::Cut
+        i += 1;
     }
+    false
 }
 
-// A field that says its length itself, at the front of the bytes: one byte below 255, or 255 and two bytes.
-fn variable_field(bytes: &[u8]) -> Span
-    ensures { λ r. ⌜ r ≡ variableField (now (bytes .entry)) ⌝ }
+// The layout of a template.
+fn layout_of(widths: &[u16]) -> Layout
+    requires { ⌜ length (now widths) ≤ 65535 ⌝ }
+    ensures { λ r. ⌜ r ≡ layoutOf (now (widths .entry)) ⌝ }
 {
-    if bytes.len() == 0 {
-        return Span::Cut;
+    let mut lead: usize = 0;
+    let mut i: usize = 0;
+    while i < widths.len() {
+        let width = widths[i];
+        i += 1;
+        if width == 65535 {
+            if has_variable(&widths[i..]) {
+                return Layout::Several;
+            }
+            return Layout::One { lead };
+        }
+        lead += width as usize;
     }
-    let first = bytes[0] as usize;
-    if first < 255 {
-        return span_of(1, first, bytes.len());
-    }
-    if bytes.len() < 3 {
-        return Span::Cut;
-    }
-    let high = bytes[1] as usize;
-    let low = bytes[2] as usize;
-    span_of(3, high * 256 + low, bytes.len())
+    Layout::Fixed
 }
 
-// A field at the front of the bytes, in the variable reading.
-fn field(bytes: &[u8], width: u16) -> Span
-    ensures { λ r. ⌜ r ≡ fieldOf (now (bytes .entry)) width IpfixVariable ⌝ }
+// The byte at a place.
+fn byte_at(bytes: &[u8], at: usize) -> usize
+    requires { ⌜ at < length (now bytes) ⌝ }
+    ensures { λ r. ⌜ (r ≡ getD (now (bytes .entry)) at 0) × (r ≤ 255) ⌝ }
 {
-    if width == 65535 {
-        return variable_field(bytes);
-    }
-    span_of(0, width as usize, bytes.len())
+    bytes[at] as usize
 }
 
-// The whole records of a body in the variable reading, at most `max_records`. A cut field, or a record that takes
-// nothing, ends the scan before its record: it leaves the loop 'records, and not 'fields alone.
-pub fn scan_variable_body(body: &[u8], widths: &[u16], max_records: usize) -> Scanned
+// The length that stands in the two bytes behind a place.
+fn long_length(bytes: &[u8], at: usize) -> usize
+    requires { ⌜ at + 2 < length (now bytes) ⌝ }
+    ensures { λ r.
+        ⌜ (r ≡ getD (now (bytes .entry)) (at + 1) 0 * 256 + getD (now (bytes .entry)) (at + 2) 0) × (r ≤ 65535) ⌝ }
+{
+    byte_at(bytes, at + 1) * 256 + byte_at(bytes, at + 2)
+}
+
+// The whole records of a body whose template has one variable-length field, behind `lead` bytes: at most `max_records`.
+// A record has the least size and the field's content, and two bytes more behind a long prefix.
+fn scan_one_variable(
+    body: &[u8],
+    widths: &[u16],
+    lead: usize,
+    least: usize,
+    max_records: usize,
+) -> Scanned
+    requires { ⌜ (layoutOf (now widths) ≡ One lead) × (least ≡ leastSize (now widths) IpfixVariable) ⌝ }
+    ensures { λ r. ⌜ r ≡ scanOf (now (body .entry)) (now (widths .entry)) IpfixVariable «max_records» ⌝ }
+{
+    let mut rest = body;
+    let mut records: usize = 0;
+    let mut long: usize = 0;
+    while records < max_records {
+        if rest.len() < least {
+            break;
+        }
+        let mut content = byte_at(rest, lead);
+        let mut step = least;
+        if content == 255 {
+            if rest.len() - least < 2 {
+                break;
+            }
+            step = least + 2;
+            content = long_length(rest, lead);
+        }
+        if rest.len() - step < content {
+            break;
+        }
+        let next = &rest[step..];
+        rest = &next[content..];
+        records += 1;
+        long += step - least;
+    }
+    Scanned {
+        records,
+        payload: body.len() - rest.len() - records - long,
+        remainder: rest.len(),
+    }
+}
+
+// The whole records of a body, field by field: at most `max_records`. The least size of a record is passed first: `next`
+// starts behind it, and a variable-length field moves it on. A cut field ends the scan before its record: it leaves the
+// loop 'records, and not 'fields alone.
+fn scan_fields(body: &[u8], widths: &[u16], least: usize, max_records: usize) -> Scanned
+    requires { ⌜ (least ≡ leastSize (now widths) IpfixVariable) × (0 < least) ⌝ }
     ensures { λ r. ⌜ r ≡ scanOf (now (body .entry)) (now (widths .entry)) IpfixVariable «max_records» ⌝ }
 {
     let mut rest = body;
     let mut records: usize = 0;
     let mut payload: usize = 0;
     'records: while records < max_records {
+        if rest.len() < least {
+            break 'records;
+        }
+        let mut next = &rest[least..];
         let mut at: usize = 0;
-        let mut record_payload: usize = 0;
+        let mut prefixes: usize = 0;
         let mut i: usize = 0;
         'fields: while i < widths.len() {
             let width = widths[i];
-            let Span::Whole { size, content } = field(&rest[at..], width) else {
-                break 'records;
-            };
-            at += size;
-            record_payload += content;
             i += 1;
+            if width != 65535 {
+                at += width as usize;
+                continue 'fields;
+            }
+            let short = byte_at(rest, at);
+            if short < 255 {
+                if next.len() < short {
+                    break 'records;
+                }
+                next = &next[short..];
+                at += 1 + short;
+                prefixes += 1;
+                continue 'fields;
+            }
+            if next.len() < 2 {
+                break 'records;
+            }
+            next = &next[2..];
+            let long = long_length(rest, at);
+            if next.len() < long {
+                break 'records;
+            }
+            next = &next[long..];
+            at += 3 + long;
+            prefixes += 3;
         }
-        if at == 0 {
-            break 'records;
-        }
-        rest = &rest[at..];
+        rest = next;
         records += 1;
-        payload += record_payload;
+        payload += at - prefixes;
     }
     Scanned {
         records,
         payload,
         remainder: rest.len(),
+    }
+}
+
+// The whole records of a body in the variable reading, at most `max_records`. `least` is the least size of a record.
+pub fn scan_variable_body(body: &[u8], widths: &[u16], least: usize, max_records: usize) -> Scanned
+    requires { ⌜ (length (now widths) ≤ 65535) × (least ≡ leastSize (now widths) IpfixVariable) × (0 < least) ⌝ }
+    ensures { λ r. ⌜ r ≡ scanOf (now (body .entry)) (now (widths .entry)) IpfixVariable «max_records» ⌝ }
+{
+    let layout = layout_of(widths);
+    match layout {
+        Layout::Fixed => scan_fixed_body(body.len(), least, max_records),
+        Layout::One { lead } => scan_one_variable(body, widths, lead, least, max_records),
+        Layout::Several => scan_fields(body, widths, least, max_records),
     }
 }
 

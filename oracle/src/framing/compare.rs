@@ -5,7 +5,7 @@ use super::case::{Case, Reading};
 use super::generator::{Share, Sizes, random_case};
 use super::record::recorded_cases;
 use super::{exhaustive, giants};
-use crate::numbers::{DONE, MAX_BODY, MAX_WIDTHS, NO_RECORDS, TOO_LARGE};
+use crate::numbers::{DONE, MAX_BODY, MAX_WIDTHS, NO_RECORDS, TOO_LARGE, VARIABLE};
 use crate::port::{self, UNTOUCHED, shown};
 use crate::random::Random;
 use std::collections::BTreeMap;
@@ -15,6 +15,8 @@ use std::process::ExitCode;
 pub const DEFAULTS: (u64, u64) = (1, 3_000_000);
 
 const SHOWN: u64 = 10;
+
+const SEVERAL: usize = 2;
 
 const SIZES: Sizes = Sizes {
     widths: &[
@@ -82,6 +84,9 @@ struct Comparison {
     inputs: u64,
     /// By reading and expected number.
     answers: BTreeMap<(u8, u32), u64>,
+    /// In the variable reading, by how many fields are variable (0, 1, or 2 for several) and
+    /// expected number: the port scans each kind of template in its own way.
+    variable: BTreeMap<(usize, u32), u64>,
     differences: u64,
 }
 
@@ -94,6 +99,10 @@ impl Comparison {
 
         self.inputs += 1;
         *self.answers.entry((case.reading as u8, expected.number)).or_default() += 1;
+        if case.reading == Reading::IpfixVariable {
+            let fields = case.widths.iter().filter(|&&width| width == VARIABLE).count();
+            *self.variable.entry((fields.min(SEVERAL), expected.number)).or_default() += 1;
+        }
         if number != expected.number || cost != expected_cost {
             self.differences += 1;
             if self.differences <= SHOWN {
@@ -111,6 +120,12 @@ impl Comparison {
             let answers: Vec<String> =
                 answers.map(|((_, number), count)| format!("{number}: {count}")).collect();
             println!("  {reading:?} {}", answers.join(", "));
+        }
+        for (fields, name) in ["no", "one", "several"].into_iter().enumerate() {
+            let answers = self.variable.range((fields, 0)..=(fields, u32::MAX));
+            let answers: Vec<String> =
+                answers.map(|((_, number), count)| format!("{number}: {count}")).collect();
+            println!("    {name} variable: {}", answers.join(", "));
         }
     }
 }

@@ -1,4 +1,4 @@
-use Rattle.output_scan.proofs.Fixed.{by-division}
+use Rattle.output_scan.proofs.Fixed.{all-plain, by-division}
 use borrow.Author.Needs.{needs}
 use Rattle.output_preflight.proofs.scan_body.Statement.{statement}
 use Rattle.output_preflight.proofs.scan_body.Tie as tie
@@ -19,17 +19,18 @@ enum-told-3 : tie.Need-enum-told-3
 enum-told-3 c = search needs
 
 scan-variable-body-requires : tie.Need-scan-variable-body-requires
-scan-variable-body-requires c κs = search needs
+scan-variable-body-requires c κs =
+    (c .before .before .before .before .pre .0, rw (c .enum-told3 .given .1) at (c .before .before .before .before .pre .1), c .before .before .before .before .pre .2)
 
 returns : tie.Need-returns
-returns c = by-division _ (λ w. rw (c .before .enum-told .given .1)) _ _ _ _ _
-    (c .before .before .before .before .before .pre .0)
-    (c .before .before .before .before .before .pre .1) (c .scan-fixed-body .ensures)
+returns c = by-division _ _ _ _ _ _ (all-plain _ (λ w. rw (c .before .enum-told .given .1)) _)
+    (c .before .before .before .before .before .pre .1)
+    (c .before .before .before .before .before .pre .2) (c .scan-fixed-body .ensures)
 
 returns-2 : tie.Need-returns-2
-returns-2 c = by-division _ (λ w. rw (c .before .enum-told2 .given .1)) _ _ _ _ _
-    (c .before .before .before .before .before .pre .0)
-    (c .before .before .before .before .before .pre .1) (c .scan-fixed-body2 .ensures)
+returns-2 c = by-division _ _ _ _ _ _ (all-plain _ (λ w. rw (c .before .enum-told2 .given .1)) _)
+    (c .before .before .before .before .before .pre .1)
+    (c .before .before .before .before .before .pre .2) (c .scan-fixed-body2 .ensures)
 
 returns-3 : tie.Need-returns-3
 returns-3 c = rw (c .before .enum-told3 .given .1) (c .scan-variable-body .ensures)

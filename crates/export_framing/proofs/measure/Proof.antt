@@ -1,6 +1,6 @@
 use borrow.Author.Needs.{needs}
-use Rattle.export_framing.proofs.preflight_v9_fixed.Statement.{statement}
-use Rattle.export_framing.proofs.preflight_v9_fixed.Tie as tie
+use Rattle.export_framing.proofs.measure.Statement.{statement}
+use Rattle.export_framing.proofs.measure.Tie as tie
 
 preflight-requires : tie.Need-preflight-requires
 preflight-requires c κs = search needs
@@ -11,5 +11,5 @@ export-requires c κs = search needs
 returns : tie.Need-returns
 returns c = rw (c .before .before .preflight .ensures) at (c .export .ensures)
 
-pub preflight-v9-fixed-spec : {M : Type 1} → statement M
-preflight-v9-fixed-spec = tie.close (tie.spec preflight-requires export-requires returns)
+pub measure-spec : {M : Type 1} → statement M
+measure-spec = tie.close (tie.spec preflight-requires export-requires returns)
