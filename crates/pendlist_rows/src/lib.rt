@@ -27,9 +27,6 @@ pub enum Outcome {
     Bad,
 }
 
-// The most bytes of a row: a letter, five times a blank and 20 digits, and a newline.
-pub const ROW_BYTES: usize = 107;
-
 // Puts a blank and a number into the text from `at` on, and answers where the text goes on.
 fn put_number(out: &mut [u8], at: usize, n: u64) -> usize
     requires { ⌜ at + 21 ≤ length (now out) ⌝ }
@@ -58,7 +55,8 @@ fn put_numbers(out: &mut [u8], at: usize, numbers: &[u64]) -> usize
     end
 }
 
-// Puts a row into the text from `at` on.
+// Puts a row into the text from `at` on. It has at most 107 bytes: a letter, five times a blank and 20 digits, and a
+// newline.
 fn put_row(out: &mut [u8], at: usize, row: Row) -> usize
     requires { ⌜ at + 107 ≤ length (now out) ⌝ }
     ensures { λ r. ⌜ Puts (rowText row) 107 at (now (out .entry)) r (now (out .exit)) ⌝ }

@@ -19,7 +19,7 @@ use Rattle.pendlist_rows.specs.Text.{outcomeText}
 use Rattle.pendlist_calls.specs.Steps.{Step, stepOf}
 use Rattle.pendlist_run.specs.declared.program.Ended.the-variants as Ends
 use Rattle.pendlist_texts.specs.Lists.{isBad, ListState, lineStep, afterLines, rowsOf, afterText}
-use Rattle.pendlist_run.specs.Turns.{readyOf, Standing, begun, with-turn, turnOf, nextTurn, turnsOf}
+use Rattle.pendlist_run.specs.Turns.{readyOf, Standing, begun, withTurn, turnOf, nextTurn, turnsOf}
 use Rattle.pendlist_run.specs.Turns.{inputTurns, joined}
 use Rattle.pendlist_run.specs.Program.{turnsIn, RunsInput}
 
@@ -173,7 +173,7 @@ module _ (bytes words : ℕ) where
   module _ (s : Standing) where
     next-good : (last : Bool) (read : List ℕ) → s .after .bad ≡ false →
         nextTurn bytes words last read s
-        ≡ with-turn s (turnOf bytes words last (s .kept ++ read) (s .after .opened) (s .after .holds))
+        ≡ withTurn s (turnOf bytes words last (s .kept ++ read) (s .after .opened) (s .after .holds))
     unfolding nextTurn
     next-good last read e = rw e
 

@@ -12,9 +12,9 @@ use Rattle.pending_flows.specs.View.{Areas, areasOf, view}
 use Rattle.pendlist_run.specs.declared.turns.Turn.{Turn}
 use Rattle.pendlist_run.specs.declared.program.Ended.the-variants.{Input, Bad, Write, Reads}
 use Rattle.pendlist_texts.specs.Lists.{ListState}
-use Rattle.pendlist_run.specs.Turns.{Standing, begun, with-turn, nextTurn, turnsOf, inputTurns}
+use Rattle.pendlist_run.specs.Turns.{Standing, begun, withTurn, nextTurn, turnsOf, inputTurns}
 use Rattle.pendlist_run.specs.Turns.{turnIn, TakesTurn}
-use Rattle.pendlist_run.specs.Program.{ReadsBehind, turnsIn, RunsInput, RunsProgram}
+use Rattle.pendlist_run.specs.Program.{ReadsBehind, turnsIn, HandsRows, RunsInput, RunsProgram}
 
 -- a read more: its turn comes last
 turns-more : (bytes words : ℕ) (reads : List (List ℕ)) (read : List ℕ) (s : Standing) →
@@ -79,9 +79,20 @@ module _ {a₀ a : Areas} {kept : ℕ} {buffer : List ℕ} {opened : Bool} (inv 
         nextTurn (length (a₀ .bytes)) (length (a₀ .words)) last more (turnsIn a₀ false (inv .reads))
 
     next-is : next (eqb n kept) brought
-        ≡ with-turn (turnsIn a₀ false (inv .reads)) (turnIn buffer₁ kept n opened a)
+        ≡ withTurn (turnsIn a₀ false (inv .reads)) (turnIn buffer₁ kept n opened a)
     unfolding next nextTurn
     next-is = rw (inv .good, ← there, inv .opens, inv .holds, inv .bytes-long, inv .words-long)
+
+    pub rows-handed : length out′ ≡ 438272 → HandsRows out′ (r .filled)
+    unfolding next
+    rows-handed long = record {
+      within = omega (arith, turn .short);
+      first = a₀;
+      reads = inv .reads;
+      read = brought;
+      last = eqb n kept;
+      follows = ap (λ (s : Standing). s .rows) next-is ∙ rw (turn .rows);
+    }
 
     -- the reads with this one; one that brought nothing is none of them
     by-end : (q : Bool) → eqb n kept ≡ q → TurnsEnd a₀ q (turnIn buffer₁ kept n opened a)
@@ -89,7 +100,7 @@ module _ {a₀ a : Areas} {kept : ℕ} {buffer : List ℕ} {opened : Bool} (inv 
     by-end true e =
         let few : length (take n buffer₁) ≤ kept = omega (arith, length-take n buffer₁, eqb-true n kept e) in
         let nothing : brought ≡ [] = drop-of-length-le (take n buffer₁) few in
-        let same : next true [] ≡ with-turn (turnsIn a₀ false (inv .reads)) (turnIn buffer₁ kept n opened a) =
+        let same : next true [] ≡ withTurn (turnsIn a₀ false (inv .reads)) (turnIn buffer₁ kept n opened a) =
         ap (next true) (sym nothing) ∙ ap (λ (q : Bool). next q brought) (sym e) ∙ next-is in
         record {
           reads = inv .reads;
@@ -98,7 +109,7 @@ module _ {a₀ a : Areas} {kept : ℕ} {buffer : List ℕ} {opened : Bool} (inv 
         }
     by-end false e =
         let all : turnsIn a₀ false (inv .reads ++ (brought ∷ []))
-        ≡ with-turn (turnsIn a₀ false (inv .reads)) (turnIn buffer₁ kept n opened a) =
+        ≡ withTurn (turnsIn a₀ false (inv .reads)) (turnIn buffer₁ kept n opened a) =
         turns-more (length (a₀ .bytes)) (length (a₀ .words)) (inv .reads) brought (begun (view a₀))
         ∙ ap (λ (q : Bool). next q brought) (sym e)
         ∙ next-is in

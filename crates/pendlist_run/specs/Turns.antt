@@ -22,7 +22,8 @@ readyOf last there =
     cond last (length there)
     (cond (leb (length there - wholeLines there) longest) (wholeLines there) (length there))
 
--- How far a list has come: the bytes of a line that may go on, what its lines came to, and what is written of them.
+-- How far a list has come: the bytes of a line that may go on, what its lines came to, and what is to be written of
+-- them.
 pub record Standing : Type 0 where
   pub kept : List ℕ
   pub after : ListState
@@ -32,9 +33,9 @@ pub record Standing : Type 0 where
 abbrev pub begun : Option Cache → Standing
 begun v = record { kept = []; after = record { opened = false; bad = false; holds = v }; rows = [] }
 
--- how far it has come with a turn more
-abbrev pub with-turn : Standing → Standing → Standing
-with-turn s t = record { kept = t .kept; after = t .after; rows = s .rows ++ t .rows }
+-- how far it has come with one turn more
+abbrev pub withTurn : Standing → Standing → Standing
+withTurn s t = record { kept = t .kept; after = t .after; rows = s .rows ++ t .rows }
 
 -- areas of so many bytes and words
 module _ (bytes words : ℕ) where
@@ -50,14 +51,14 @@ module _ (bytes words : ℕ) where
   unfoldable pub nextTurn : (last : Bool) → List ℕ → Standing → Standing
   nextTurn last read s =
       cond (s .after .bad) s
-      (with-turn s (turnOf last (s .kept ++ read) (s .after .opened) (s .after .holds)))
+      (withTurn s (turnOf last (s .kept ++ read) (s .after .opened) (s .after .holds)))
 
   -- the turns of reads that brought these bytes
   unfoldable pub turnsOf : List (List ℕ) → Standing → Standing
   turnsOf [] s = s
   turnsOf (read ∷ reads) s = turnsOf reads (nextTurn false read s)
 
-  -- the turns of an input from its begin; where its end was read, with the turn of the read that brought nothing
+  -- the turns of an input from its beginning; where its end was read, also that of the read that brought nothing
   unfoldable pub inputTurns : (last : Bool) → List (List ℕ) → Option Cache → Standing
   inputTurns last reads v =
       cond last (nextTurn true [] (turnsOf reads (begun v))) (turnsOf reads (begun v))
@@ -79,7 +80,7 @@ turnIn buffer kept n opened a =
     turnOf (length (a .bytes)) (length (a .words)) (eqb n kept) (take n buffer) opened (view a)
 
 -- A turn on lent memory: what is left of the bytes stands at the buffer's front, and the rows at the front of the room
--- for them.
+-- for them, which has 107 bytes for each of the buffer's 4,096.
 pub record TakesTurn (buffer : List ℕ) (kept n : ℕ) (opened : Bool) (a : Areas) (r : Turn) (a′ : Areas)
     (buffer′ out′ : List ℕ) : Type 0 where
   pub left : take (r .kept) buffer′ ≡ turnIn buffer kept n opened a .kept

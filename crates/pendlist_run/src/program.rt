@@ -3,7 +3,7 @@ ghost use mathlib.Core.Path.{_≡_};
 ghost use Prim.Native.Nat.{_≤_};
 ghost use lib.ListN.{length};
 ghost use Rattle.pending_flows.specs.View.{areasOf};
-ghost use Rattle.pendlist_run.specs.Program.{ReadsBehind, RunsInput, RunsProgram};
+ghost use Rattle.pendlist_run.specs.Program.{ReadsBehind, HandsRows, RunsInput, RunsProgram};
 use super::turns::take_turn;
 use libc::STDIN_FILENO;
 use libc::STDOUT_FILENO;
@@ -16,9 +16,9 @@ pub enum Ended {
     Input,
     // the list ended with `bad`, and every row is written
     Bad,
-    // a write failed: the table ends somewhere before
+    // a write failed, and no line was carried out behind it
     Write,
-    // so many reads that no input comes to it
+    // the input was read as often as it may be
     Reads,
 }
 
@@ -32,9 +32,9 @@ fn rows_room() -> [u8; 438272]
     [0; 438272]
 }
 
-// Writes the first bytes of the text, and answers whether all were written.
-fn write_text(out: &[u8], filled: usize) -> bool
-    requires { ⌜ filled ≤ length (now out) ⌝ }
+// Writes the rows of a turn, and answers whether all were written.
+fn write_rows(out: &[u8], filled: usize) -> bool
+    requires { ⌜ HandsRows (now out) filled ⌝ }
 {
     io::write_all(STDOUT_FILENO, &out[..filled])
 }
@@ -50,7 +50,8 @@ fn read_more(buffer: &mut [u8], kept: usize) -> usize
     kept + io::count(got, part)
 }
 
-// Carries out the list on standard input, and writes its rows.
+// Carries out the list on standard input turn by turn, and writes the rows of each turn before it reads again. A write
+// that fails ends it.
 fn run_input(words: &mut [u64], bytes: &mut [u8], buffer: &mut [u8], out: &mut [u8]) -> Ended
     requires { ⌜ (length (now buffer) ≡ 4096) × (length (now out) ≡ 438272) ⌝ }
     ensures { λ r.
@@ -63,7 +64,7 @@ fn run_input(words: &mut [u64], bytes: &mut [u8], buffer: &mut [u8], out: &mut [
     while 0 < reads {
         let n = read_more(buffer, kept);
         let turn = take_turn(words, bytes, buffer, kept, n, opened, out);
-        if !write_text(out, turn.filled) {
+        if !write_rows(out, turn.filled) {
             return Ended::Write;
         }
         if turn.bad {
@@ -79,7 +80,7 @@ fn run_input(words: &mut [u64], bytes: &mut [u8], buffer: &mut [u8], out: &mut [
     Ended::Reads
 }
 
-// Runs the program. A write that fails ends it.
+// Runs the program: writes the header, and carries out the list.
 pub fn run() -> Ended
     ensures { λ r. ⌜ RunsProgram r ⌝ }
 {

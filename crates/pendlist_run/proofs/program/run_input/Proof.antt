@@ -2,7 +2,7 @@ use mathlib.Core.Path.{_≡_}
 use lib.ListN.{length}
 use Rattle.pending_flows.specs.View.{areasOf}
 use Rattle.pendlist_run.proofs.Inputs.{InputAhead, input-begins, write-failed, list-bad, input-over}
-use Rattle.pendlist_run.proofs.Inputs.{input-goes-on, reads-over}
+use Rattle.pendlist_run.proofs.Inputs.{rows-handed, input-goes-on, reads-over}
 use borrow.Author.Needs.{needs}
 use Rattle.pendlist_run.proofs.program.run_input.Statement.{statement}
 use Rattle.pendlist_run.proofs.program.run_input.Tie as tie
@@ -24,8 +24,14 @@ read-more-requires c κs = search needs
 take-turn-requires : tie.Need-take-turn-requires Inv-loop μ-loop
 take-turn-requires c κs = search needs
 
-write-text-requires : tie.Need-write-text-requires Inv-loop μ-loop
-write-text-requires c κs = search needs
+write-rows-requires : tie.Need-write-rows-requires Inv-loop μ-loop
+write-rows-requires c κs =
+    let taken : tie.After-take-turn Inv-loop μ-loop =
+    c .before .before .before .before .before .before .before .before .before in
+    let read : tie.After-read-more Inv-loop μ-loop =
+    taken .before .before .before .before .before .before .before in
+    let top : tie.At-loop Inv-loop μ-loop = read .before .before .before in
+    rows-handed (top .loop .inv .0) (read .read-more .ensures) (taken .take-turn .ensures) (search needs)
 
 same-length : tie.Need-same-length Inv-loop μ-loop
 same-length c = search needs
@@ -105,7 +111,7 @@ run-input-spec =
     loop-holds
     read-more-requires
     take-turn-requires
-    write-text-requires
+    write-rows-requires
     same-length
     same-length-2
     same-length-3
