@@ -61,8 +61,10 @@ module _ (b : DecodedOutputBudget) (budget : List ℕ) (is-read : b ≡ budgetOf
 
     pub rollback-refused : (r ≡ 0 → ⊥) → RollsBackIn values payload r budget budget
     rollback-refused =
-        refused b budget is-read rollback-tells rollback-leaves b′ (toldOfRollback a) r [] [] (promise .answer) (promise .budget) handed
+        refused b budget is-read rollback-tells rollback-leaves b′ (toldOfRollback a) r [] []
+        (promise .answer) (promise .budget) handed
 
     pub rollback-done : (budget′ : List ℕ) → r ≡ 0 → budget′ ≡ wordsOf b′ → RollsBackIn values payload 0 budget budget′
     rollback-done =
-        done-with b budget is-read rollback-tells rollback-leaves b′ (toldOfRollback a) r [] [] (promise .answer) (promise .budget) handed
+        done-with b budget is-read rollback-tells rollback-leaves b′ (toldOfRollback a) r [] []
+        (promise .answer) (promise .budget) handed

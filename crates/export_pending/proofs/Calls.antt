@@ -19,13 +19,13 @@ module _ (b : DecodedOutputBudget) (budget : List ℕ) (is-read : b ≡ budgetOf
     module _ (a : FitAnswer) (r : ℕ) (handed : Answers (toldOfFit a) r [] []) where
       pub fits-whole : toldOfFit a ≡ fullBudgetTold b f → FitsWhole budget number cost r
       fits-whole h =
-          answered b budget is-read (λ (y : DecodedOutputBudget). fullBudgetTold y (preflightBy number cost)) (toldOfFit a) r [] []
-          (rw is-preflight at h) handed
+          answered b budget is-read (λ (y : DecodedOutputBudget). fullBudgetTold y (preflightBy number cost))
+          (toldOfFit a) r [] [] (rw is-preflight at h) handed
 
       pub fits-remaining : toldOfFit a ≡ remainingTold b f → FitsRemaining budget number cost r
       fits-remaining h =
-          answered b budget is-read (λ (y : DecodedOutputBudget). remainingTold y (preflightBy number cost)) (toldOfFit a) r [] []
-          (rw is-preflight at h) handed
+          answered b budget is-read (λ (y : DecodedOutputBudget). remainingTold y (preflightBy number cost))
+          (toldOfFit a) r [] [] (rw is-preflight at h) handed
 
     module _ (d : DecoderReport) (success : ℕ) (reported : List ℕ) (is-report : d ≡ reportBy success reported)
         (a : MaterializeAnswer) (b′ : DecodedOutputBudget) (r : ℕ) (words words′ : List ℕ)
