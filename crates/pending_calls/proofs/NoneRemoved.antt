@@ -137,13 +137,8 @@ module _ (w : List ℕ) (n : ℕ) (ok : wellFormed w n ≡ true) where
             (removal-done everything (recordsAt (limitsOf w)) (heldCount w + chanceCount w) (entryCount w) apart zeros w
             w w′ (counted es) kept (record { entries = entryCount w; records = remain; apart = bodies })
             (entries-below-records w n legal, records-within w n legal)
-            (record {
-              few = omega arith;
-              entries = sym all-swept-stay;
-              counted = ap counted (sym all-swept-stay);
-              head = refl;
-              tail = refl;
-            }) counts refl (rw (start, all) at closes) long)
+            (record { few = omega arith; entries = sym all-swept-stay; head = refl; tail = refl })
+            refl counts refl (rw (start, all) at closes) long)
 
         -- no record has the label
         pub none-apart : (at : ℕ) → at ≡ placeOf apart rs → k ≤ at →

@@ -4,12 +4,12 @@ use mathlib.Core.Bool.{false}
 use mathlib.Core.List.{List}
 use Prim.Native.Nat.{ℕ, _+_, _*_, _≤_}
 use lib.ListN.{length, getD, set, replicate, take, drop}
+use Rattle.config.specs.declared.Ttl.the-variants.{None}
 use Rattle.config.specs.Limits.{recordWords}
 use Rattle.table.specs.declared.Entry.{Entry}
 use Rattle.table.specs.Layout.{entriesAt}
 use Rattle.table.specs.Table.{entriesFrom, recordsFrom, indexFrom}
 use Rattle.table_entries.specs.declared.StayTest.{StayTest}
-use Rattle.table_entries.specs.Stays as Stays
 use Rattle.table_entries.specs.Sums.{summed}
 use Rattle.table_entries.specs.Sweep.{swept}
 use Rattle.table_records.specs.Close.{closed, positions, remapped}
@@ -17,7 +17,7 @@ use Rattle.pending_calls.specs.declared.removal.Removed.{Removed}
 
 -- every entry stays by this test
 abbrev pub everything : StayTest
-everything = Stays.everything
+everything = record { ttl = None; clock = 0; all = false; label = 1024; «max_size» = 18446744073709551615 }
 
 -- how many bodies each label has; and the same with none for one label
 abbrev pub counted : List Entry → List ℕ

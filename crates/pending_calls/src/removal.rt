@@ -14,6 +14,7 @@ use pending_flows::HeaderFigures;
 use table::LABELS;
 use table::records_at;
 use table_entries::StayTest;
+use table_entries::sums_by_label;
 use table_entries::sweep;
 use table_records::close;
 use table_records::place_of;
@@ -56,8 +57,9 @@ pub fn remove(
     ensures { λ r.
         ⌜ Removes test from records entries apart (now (skip .entry)) (now (words .entry)) (now (words .exit)) r ⌝ }
 {
+    let left = sweep(words, entries, test, skip);
     let mut kept = [0u32; LABELS];
-    let left = sweep(words, entries, test, skip, &mut kept);
+    sums_by_label(words, left, stay_all(), false, &mut kept);
     let bodies = sum_of(&kept, apart);
     set_sum(&mut kept, apart, 0);
     let remain = close(words, from, records, &kept);

@@ -1,13 +1,13 @@
 -- The sweep, turn by turn: what is kept, and then what the sweep keeps of what is left. Assumes nothing.
 use mathlib.Core.Path.{_≡_, refl, sym, ap, _∙_}
-use mathlib.Core.Bool.{Bool, true, false, cond, and-false}
+use mathlib.Core.Bool.{Bool, true, false, cond}
 use mathlib.Core.List.{List, _∷_, _++_, append-assoc, append-nil}
 use Prim.Native.Nat.{ℕ, _+_, _*_, _-_, _≤_, _<_}
 use native.Mathlib.Omega.{arith}
-use lib.Dec.{eqb, ltb}
+use lib.Dec.{ltb}
 use lib.ListN.{length, getD, set, take, drop, length-set, List·getD-eq-default}
 use lib.Seq.{set-getD}
-use borrow.Author.Tests.{lt-ltb, ltb-false, le-leb}
+use borrow.Author.Tests.{lt-ltb, ltb-false}
 use Rattle.config.specs.Limits.{entryWords}
 use Rattle.table.specs.declared.Entry.{Entry}
 use Rattle.table.specs.Layout.{entriesAt}
@@ -15,8 +15,7 @@ use Rattle.table.specs.Table.{entryAt, entriesFrom}
 use Rattle.table.specs.Passes.{lessAt}
 use Rattle.table.proofs.Words.{entries-first, entries-none}
 use Rattle.table_entries.specs.declared.StayTest.{StayTest}
-use Rattle.table_entries.specs.Stays.{stays, everything}
-use Rattle.table_entries.specs.Sums.{moreAt, summed}
+use Rattle.table_entries.specs.Stays.{stays}
 use Rattle.table_entries.specs.Sweep.{swept, Spends, putEntry, Sweeps}
 use Rattle.table_entries.proofs.Frames.{entries-below, entries-above, entries-more, length-put, take-put}
 use Rattle.table_entries.proofs.Frames.{drop-put, entry-put}
@@ -37,19 +36,8 @@ module _ (skip : List ℕ) (label : ℕ) where
   pub one-of-label : (getD skip label 0 ≡ 0 → ⊥) → Spends label skip (lessAt skip label) true
   one-of-label some = record { test = sym (lt-ltb 0 (getD skip label 0) (omega arith)); after = refl }
 
-everything-stays : (e : Entry) → e .len ≤ 18446744073709551615 → stays everything e ≡ true
-unfolding stays
-everything-stays e h = rw (and-false (eqb 1024 (e .label))) (le-leb (e .len) 18446744073709551615 h)
-
-one-summed : (counts : List ℕ) (e : Entry) (es : List Entry) → e .len ≤ 18446744073709551615 →
-    summed everything false counts (e ∷ es) ≡ summed everything false (moreAt counts (e .label) 1) es
-unfolding summed
-one-summed counts e es h =
-    ap (λ (t : Bool). summed everything false (cond t (moreAt counts (e .label) 1) counts) es) (everything-stays e h)
-
 -- `left` entries are left, from word `from` on; `kept` are kept, up to word `to`
-pub record EntriesSwept (q : StayTest) (entries : ℕ) (skip₀ counts₀ w₀ w skip counts : List ℕ)
-    (kept left from to : ℕ) : Type 0
+pub record EntriesSwept (q : StayTest) (entries : ℕ) (skip₀ w₀ w skip : List ℕ) (kept left from to : ℕ) : Type 0
   where
     pub filled : to ≡ entriesAt + entryWords * kept
     pub reached : from + entryWords * left ≡ entriesAt + entryWords * entries
@@ -58,37 +46,31 @@ pub record EntriesSwept (q : StayTest) (entries : ℕ) (skip₀ counts₀ w₀ w
     pub long : length skip ≡ 1024
     pub rest : entriesFrom w entriesAt kept ++ swept q skip (entriesFrom w from left)
         ≡ swept q skip₀ (entriesFrom w₀ entriesAt entries)
-    pub long-counts : length counts ≡ 1024
-    pub counted : summed everything false counts (swept q skip (entriesFrom w from left))
-        ≡ summed everything false counts₀ (swept q skip₀ (entriesFrom w₀ entriesAt entries))
     pub head : take entriesAt w ≡ take entriesAt w₀
     pub tail : drop (entriesAt + entryWords * entries) w ≡ drop (entriesAt + entryWords * entries) w₀
 
 module _ (q : StayTest) (entries : ℕ) where
-  pub none-swept : (skip counts w : List ℕ) → length skip ≡ 1024 → length counts ≡ 1024 →
-      EntriesSwept q entries skip counts w w skip counts 0 entries entriesAt entriesAt
+  pub none-swept : (skip w : List ℕ) → length skip ≡ 1024 →
+      EntriesSwept q entries skip w w skip 0 entries entriesAt entriesAt
   unfolding entriesFrom
-  none-swept skip counts w len many = record {
+  none-swept skip w len = record {
     filled = refl;
     reached = refl;
     few = omega arith;
     same-length = refl;
     long = len;
     rest = refl;
-    long-counts = many;
-    counted = refl;
     head = refl;
     tail = refl;
   }
 
-  module _ {skip₀ counts₀ w₀ w skip counts : List ℕ} {kept left from to : ℕ}
-      (inv : EntriesSwept q entries skip₀ counts₀ w₀ w skip counts kept left from to) where
-    pub all-swept-up : left ≤ 0 → Sweeps q entries skip₀ counts₀ w₀ w counts kept
-    unfolding swept summed
+  module _ {skip₀ w₀ w skip : List ℕ} {kept left from to : ℕ}
+      (inv : EntriesSwept q entries skip₀ w₀ w skip kept left from to) where
+    pub all-swept-up : left ≤ 0 → Sweeps q entries skip₀ w₀ w kept
+    unfolding swept
     all-swept-up h = record {
       few = omega (arith, inv .few);
       entries = sym (append-nil (entriesFrom w entriesAt kept)) ∙ (rw (entries-none w from left h) at (inv .rest));
-      counted = rw (entries-none w from left h) at (inv .counted);
       head = inv .head;
       tail = inv .tail;
     }
@@ -100,7 +82,7 @@ module _ (q : StayTest) (entries : ℕ) where
       -- the same with one entry passed, and the entries kept so far as they are
       step : (skip′ : List ℕ) → length skip′ ≡ 1024 →
           swept q skip (entriesFrom w from left) ≡ swept q skip′ later →
-          EntriesSwept q entries skip₀ counts₀ w₀ w skip′ counts kept (left - 1) (from + entryWords) to
+          EntriesSwept q entries skip₀ w₀ w skip′ kept (left - 1) (from + entryWords) to
       step skip′ len e = record {
         filled = inv .filled;
         reached = omega (arith, inv .reached);
@@ -108,8 +90,6 @@ module _ (q : StayTest) (entries : ℕ) where
         same-length = inv .same-length;
         long = len;
         rest = ap (λ (l : List Entry). entriesFrom w entriesAt kept ++ l) (sym e) ∙ inv .rest;
-        long-counts = inv .long-counts;
-        counted = ap (summed everything false counts) (sym e) ∙ inv .counted;
         head = inv .head;
         tail = inv .tail;
       }
@@ -122,7 +102,7 @@ module _ (q : StayTest) (entries : ℕ) where
       first = rw (entries-first w from left more e is)
 
       pub entry-goes : v ≡ false →
-          EntriesSwept q entries skip₀ counts₀ w₀ w skip counts kept (left - 1) (from + entryWords) to
+          EntriesSwept q entries skip₀ w₀ w skip kept (left - 1) (from + entryWords) to
       entry-goes h = step skip (inv .long) (rw (← test, h) at first)
 
       module _ (holds : v ≡ true) (u : Bool) (skip′ : List ℕ) (spent : Spends (e .label) skip skip′ u) where
@@ -134,11 +114,10 @@ module _ (q : StayTest) (entries : ℕ) where
         second = rw (← test, holds, ← spent .test) at first
 
         pub entry-skipped : u ≡ true →
-            EntriesSwept q entries skip₀ counts₀ w₀ w skip′ counts kept (left - 1) (from + entryWords) to
+            EntriesSwept q entries skip₀ w₀ w skip′ kept (left - 1) (from + entryWords) to
         entry-skipped h = step skip′ len′ (rw (spent .after) (rw h at second))
 
-        module _ (none : u ≡ false) (room : entriesAt + entryWords * entries ≤ length w₀)
-            (short : e .len ≤ 18446744073709551615) (counts′ : List ℕ) (adds : counts′ ≡ moreAt counts (e .label) 1) where
+        module _ (none : u ≡ false) (room : entriesAt + entryWords * entries ≤ length w₀) where
           abbrev w′ : List ℕ
           w′ = putEntry w to e
 
@@ -164,16 +143,7 @@ module _ (q : StayTest) (entries : ℕ) where
               rw (entries-more w′ entriesAt kept, before, stored, same-later, same-skip, append-assoc, ← parts)
               (inv .rest)
 
-          one-counted : summed everything false counts′ (swept q skip′ (entriesFrom w′ (from + entryWords) (left - 1)))
-              ≡ summed everything false counts₀ (swept q skip₀ (entriesFrom w₀ entriesAt entries))
-          one-counted =
-              let parts : swept q skip (entriesFrom w from left) ≡ e ∷ swept q skip later = rw none at second in
-              rw (adds, same-later, same-skip)
-              (sym (one-summed counts e (swept q skip later) short)
-              ∙ ap (summed everything false counts) (sym parts)
-              ∙ inv .counted)
-
-          pub entry-kept : EntriesSwept q entries skip₀ counts₀ w₀ w′ skip′ counts′ (kept + 1) (left - 1) (from + entryWords)
+          pub entry-kept : EntriesSwept q entries skip₀ w₀ w′ skip′ (kept + 1) (left - 1) (from + entryWords)
               (to + entryWords)
           entry-kept = record {
             filled = omega (arith, inv .filled);
@@ -182,8 +152,6 @@ module _ (q : StayTest) (entries : ℕ) where
             same-length = length-put w to e ∙ inv .same-length;
             long = len′;
             rest = kept-rest;
-            long-counts = ap length adds ∙ length-set counts (e .label) _ ∙ inv .long-counts;
-            counted = one-counted;
             head = take-put w to e entriesAt (omega (arith, inv .filled)) ∙ inv .head;
             tail = drop-put w to e (entriesAt + entryWords * entries) (omega (arith, inv)) ∙ inv .tail;
           }

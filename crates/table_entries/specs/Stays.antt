@@ -1,7 +1,6 @@
 -- Which entries stay, each by itself.
-use mathlib.Core.Bool.{Bool, false, not, _&&_, _||_}
+use mathlib.Core.Bool.{Bool, not, _&&_, _||_}
 use lib.Dec.{eqb, leb}
-use Rattle.config.specs.declared.Ttl.the-variants.{None}
 use Rattle.config.specs.Age.{expiredAt}
 use Rattle.table.specs.declared.Entry.{Entry}
 use Rattle.table_entries.specs.declared.StayTest.{StayTest}
@@ -13,7 +12,3 @@ aged q e = (q .all || eqb (q .label) (e .label)) && expiredAt (q .ttl) (q .clock
 -- it is not, and it is not too large
 unfoldable pub stays : StayTest → Entry → Bool
 stays q e = not (aged q e) && leb (e .len) (q .«max_size»)
-
--- every entry stays by this test
-abbrev pub everything : StayTest
-everything = record { ttl = None; clock = 0; all = false; label = 1024; «max_size» = 18446744073709551615 }

@@ -1,7 +1,7 @@
 -- The sweep: entries go, the others close up in their order.
 use mathlib.Core.Path.{_≡_}
 use mathlib.Core.List.{List, [], _∷_}
-use mathlib.Core.Bool.{Bool, false, cond}
+use mathlib.Core.Bool.{Bool, cond}
 use Prim.Native.Nat.{ℕ, _+_, _*_, _≤_}
 use lib.Dec.{ltb}
 use lib.ListN.{getD, set, take, drop}
@@ -11,8 +11,7 @@ use Rattle.table.specs.Layout.{entriesAt}
 use Rattle.table.specs.Table.{entriesFrom}
 use Rattle.table.specs.Passes.{lessAt}
 use Rattle.table_entries.specs.declared.StayTest.{StayTest}
-use Rattle.table_entries.specs.Stays.{stays, everything}
-use Rattle.table_entries.specs.Sums.{summed}
+use Rattle.table_entries.specs.Stays.{stays}
 
 -- of the entries that stay by themselves, the oldest go, as many of each label as `skip` says
 unfoldable pub swept : StayTest → List ℕ → List Entry → List Entry
@@ -31,10 +30,9 @@ pub record Spends (label : ℕ) (skip skip′ : List ℕ) (r : Bool) : Type 0 wh
 unfoldable pub putEntry : List ℕ → ℕ → Entry → List ℕ
 putEntry w p e = set (set (set (set w p (e .label)) (p + 1) (e .place)) (p + 2) (e .len)) (p + 3) (e .clock)
 
--- the first m entries are swept, r of them stay, and those of each label are added to `counts`; no other word changes
-pub record Sweeps (q : StayTest) (m : ℕ) (skip counts w w′ counts′ : List ℕ) (r : ℕ) : Type 0 where
+-- the first m entries are swept, r of them stay; no other word changes
+pub record Sweeps (q : StayTest) (m : ℕ) (skip w w′ : List ℕ) (r : ℕ) : Type 0 where
   pub few : r ≤ m
   pub entries : entriesFrom w′ entriesAt r ≡ swept q skip (entriesFrom w entriesAt m)
-  pub counted : counts′ ≡ summed everything false counts (swept q skip (entriesFrom w entriesAt m))
   pub head : take entriesAt w′ ≡ take entriesAt w
   pub tail : drop (entriesAt + entryWords * m) w′ ≡ drop (entriesAt + entryWords * m) w

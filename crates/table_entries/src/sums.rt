@@ -27,7 +27,7 @@ fn capped_sum(sum: u32, n: u64) -> u32
 
 // Adds n to a label's sum. A label that is none has no sum. (Behind a reference the type does not tell an array's
 // length to a proof, so the callers say it.)
-pub fn add_at(sums: &mut [u32; LABELS], label: u64, n: u64)
+fn add_at(sums: &mut [u32; LABELS], label: u64, n: u64)
     requires { ⌜ length (now sums) ≡ 1024 ⌝ }
     ensures { λ _. ⌜ now (sums .exit) ≡ moreAt (now (sums .entry)) label n ⌝ }
 {

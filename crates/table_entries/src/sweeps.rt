@@ -7,7 +7,6 @@ ghost use Rattle.table.specs.Layout.{entriesAt};
 ghost use Rattle.table_entries.specs.Sweep.{Spends, putEntry, Sweeps};
 use super::StayTest;
 use super::stay::stays;
-use super::sums::add_at;
 use config::ENTRY_WORDS;
 use config::HEADER_WORDS;
 use table::Entry;
@@ -42,20 +41,11 @@ pub fn put_entry(words: &mut [u64], p: usize, entry: Entry)
     words[p + 3] = entry.clock;
 }
 
-// Keeps of the entries those that stay and are not skipped, in order; answers how many, and adds to `counts` how many of
-// each label.
-pub fn sweep(
-    words: &mut [u64],
-    entries: usize,
-    test: StayTest,
-    skip: &mut [u32; LABELS],
-    counts: &mut [u32; LABELS],
-) -> usize
-    requires { ⌜ (entriesAt + entryWords * entries ≤ length (now words)) × ((length (now skip) ≡ 1024) × (length (now
-        counts) ≡ 1024)) ⌝ }
+// Keeps of the entries those that stay and are not skipped, in order; answers how many.
+pub fn sweep(words: &mut [u64], entries: usize, test: StayTest, skip: &mut [u32; LABELS]) -> usize
+    requires { ⌜ (entriesAt + entryWords * entries ≤ length (now words)) × (length (now skip) ≡ 1024) ⌝ }
     ensures { λ r.
-        ⌜ Sweeps test entries (now (skip .entry)) (now (counts .entry)) (now (words .entry)) (now (words .exit))
-        (now (counts .exit)) r ⌝ }
+        ⌜ Sweeps test entries (now (skip .entry)) (now (words .entry)) (now (words .exit)) r ⌝ }
 {
     let mut kept: usize = 0;
     let mut left = entries;
@@ -66,7 +56,6 @@ pub fn sweep(
         if stays(test, entry) {
             if !spend(skip, entry.label) {
                 put_entry(words, to, entry);
-                add_at(counts, entry.label, 1);
                 kept += 1;
                 to += ENTRY_WORDS;
             }

@@ -7,11 +7,11 @@ use native.Mathlib.Omega.{arith}
 use lib.Dec.{eqb}
 use lib.ListN.{length, getD}
 use borrow.Author.Tests.{eqb-true, le-leb}
+use Rattle.config.specs.declared.Ttl.the-variants.{None}
 use Rattle.config.proofs.Lists.{All, all-map, all-both}
 use Rattle.table.specs.declared.Entry.{Entry}
 use Rattle.table.specs.Table.{tally}
 use Rattle.table_entries.specs.declared.StayTest.{StayTest}
-use Rattle.table_entries.specs.Stays as Stays
 use Rattle.table_entries.specs.Stays.{stays}
 use Rattle.table_entries.specs.Sums.{sumMost, share, summed, labelSum}
 use Rattle.table_entries.proofs.LabelSums.{zeros, summed-label}
@@ -66,7 +66,7 @@ lenMost = 18446744073709551615
 
 -- the test that every body passes
 abbrev pub everything : StayTest
-everything = Stays.everything
+everything = record { ttl = None; clock = 0; all = false; label = 1024; «max_size» = lenMost }
 
 everything-passes : (k : ℕ) (x : Body) → size x ≤ lenMost → bodyStays everything k x ≡ true
 unfolding bodyStays

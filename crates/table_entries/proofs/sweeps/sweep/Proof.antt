@@ -8,11 +8,11 @@ use Rattle.table_entries.proofs.sweeps.sweep.Statement.{statement}
 use Rattle.table_entries.proofs.sweeps.sweep.Tie as tie
 
 abbrev Inv-loop : tie.InvT-loop
-Inv-loop words₀ entries test skip₀ counts₀ kept₀ left₀ from₀ to₀ words skip counts kept left from to =
-    EntriesSwept test entries skip₀ counts₀ words₀ words skip counts kept left from to
+Inv-loop words₀ entries test skip₀ kept₀ left₀ from₀ to₀ words skip kept left from to =
+    EntriesSwept test entries skip₀ words₀ words skip kept left from to
 
 abbrev μ-loop : tie.MeasureT-loop
-μ-loop words₀ entries test skip₀ counts₀ kept₀ left₀ from₀ to₀ words skip counts kept left from to = left
+μ-loop words₀ entries test skip₀ kept₀ left₀ from₀ to₀ words skip kept left from to = left
 
 loop-holds : tie.Need-loop-holds Inv-loop μ-loop
 loop-holds c = search (none-swept, needs)
@@ -28,9 +28,6 @@ spend-requires c κs = search needs
 
 put-entry-requires : tie.Need-put-entry-requires Inv-loop μ-loop
 put-entry-requires c κs = search needs
-
-add-at-requires : tie.Need-add-at-requires Inv-loop μ-loop
-add-at-requires c κs = search needs
 
 add-kept : tie.Need-add-kept Inv-loop μ-loop
 add-kept c = search needs
@@ -50,15 +47,11 @@ loop-less c = search needs
 loop-again : tie.Need-loop-again Inv-loop μ-loop
 loop-again c =
     ⊎-elim
-    (λ v. rw (v .10 ∙ v .5 .ensures, v .11, v .12, v .13, v .14)
-    (entry-kept _ _ (c .before .before .before .before .before .loop .inv) _ _
-    (c .before .before .before .before .loop-test .taken) (c .before .before .entry-at .ensures)
-    (c .before .stays .ensures) (v .0 .taken) _ _ (v .2 .ensures) (not-true (v .2 .result) (v .3 .taken))
-    (c .before .before .before .before .before .before .before .pre .0) (search needs) _ (v .9 .ensures)))
+    (λ v. rw (v .8 ∙ v .5 .ensures, v .9, v .10, v .11) (search (entry-kept, not-true, needs)))
     (⊎-elim
     (λ v. let spent = not-false (v .2 .result) (v .3 .left) in
-    rw (v .4, v .5, v .6, v .7, v .8) (search (entry-skipped, v .2 .ensures, spent, needs)))
-    (λ v. rw (v .1, v .2, v .3, v .4, v .5) (search (entry-goes, needs))))
+    rw (v .4, v .5, v .6, v .7) (search (entry-skipped, v .2 .ensures, spent, needs)))
+    (λ v. rw (v .1, v .2, v .3, v .4) (search (entry-goes, needs))))
     (c .if1 .came)
 
 same-length : tie.Need-same-length Inv-loop μ-loop
@@ -78,7 +71,6 @@ sweep-spec =
     stays-requires
     spend-requires
     put-entry-requires
-    add-at-requires
     add-kept
     add-to
     sub-left
