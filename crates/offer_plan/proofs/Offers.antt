@@ -97,6 +97,7 @@ module _ (w b : List ℕ) (ok : wellFormed w (length b) ≡ true) (l : PendingFl
     live-read clock =
         let all = held-read w b ok clock in
         rw (stay-read, limits, entries-many) (record {
+          some = all-drop _ n (tableOf w .held) (all .some);
           counts = all-drop _ n (tableOf w .held) (all .counts);
           live = all-drop _ n (tableOf w .held) (all .live);
         })

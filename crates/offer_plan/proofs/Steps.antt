@@ -1,23 +1,25 @@
 -- The steps by which a plan is made, from what their callees ensure. Assumes nothing.
 use mathlib.Core.Path.{_≡_, refl, sym, ap, _∙_}
 use mathlib.Core.Bool.{Bool, true, false}
-use mathlib.Core.List.{List}
+use mathlib.Core.List.{List, [], _∷_}
 use Prim.Native.Nat.{ℕ, _+_, _*_, _-_, _≤_, _<_}
 use native.Mathlib.Omega.{arith}
 use lib.Dec.{eqb, leb, ltb}
-use lib.ListN.{length}
+use lib.ListN.{length, getD}
 use borrow.Author.Tests.{eqb-true, lt-ltb, le-ltb, lt-leb, le-leb}
 use Rattle.config.specs.declared.Ttl.the-variants.{None}
 use Rattle.config.specs.declared.PendingFlowsConfig.{PendingFlowsConfig}
 use Rattle.config.specs.Limits.{recordWords, entryWords, maxBodies}
+use Rattle.config.proofs.Lists.{All, all-both}
 use Rattle.table.specs.declared.Entry.{Entry}
 use Rattle.table.specs.declared.TemplateRecord.{TemplateRecord}
 use Rattle.table.specs.declared.RecordFound.{RecordFound}
 use Rattle.table.specs.declared.LabelFound.{LabelFound}
 use Rattle.table.specs.Layout.{limitsOf, entriesAt, recordsAt}
-use Rattle.table.specs.Table.{tableOf, entriesFrom, recordsFrom}
+use Rattle.table.specs.Table.{tableOf, entriesFrom, recordsFrom, tally}
+use Rattle.table.specs.Passes.{firstLabel}
 use Rattle.table.specs.WellFormed.{wellFormed}
-use Rattle.table.specs.Reads.{recordOf, labelIn, countIn, labelOf, countOf}
+use Rattle.table.specs.Reads.{recordOf, labelIn, countIn, labelOf, countOf, liveCount}
 use Rattle.table.proofs.Words.{length-records}
 use Rattle.table_entries.specs.declared.StayTest.{StayTest}
 use Rattle.table_entries.specs.Sums.{summed}
@@ -28,8 +30,9 @@ use Rattle.pending_flows.specs.declared.header.HeaderFigures.{HeaderFigures}
 use Rattle.pending_flows.specs.Header.{figuresAt}
 use Rattle.pending_flows.specs.View.{cacheOf}
 use Rattle.pending_flows.proofs.Questions as Questions
+use Rattle.table_view.proofs.AllStay.{all-live}
 use Rattle.offer_plan.specs.Plan.{liveTest, liveSums, liveIn, LiveRead}
-use Rattle.offer_plan.specs.Plan.{liveAt, othersFill, firstEvicted, Decides}
+use Rattle.offer_plan.specs.Plan.{liveAt, othersFill, firstEvicted, firstOfFull, Decides}
 use Rattle.offer_plan.proofs.RecordReads.{evictions-read, none-evicted}
 use Rattle.offer_plan.proofs.Live.{label-is, count-is, live-is}
 use Rattle.offer_plan.proofs.Tables.{held-sized, total-held, held-are}
@@ -42,6 +45,48 @@ module _ (live : List ℕ) (rs : List TemplateRecord) (most n : ℕ) (counted : 
 
   pub first-goes : (k : ℕ) → most ≤ n → k ≡ firstLive live rs → k ≡ firstEvicted most live rs
   first-goes k h first = rw (le-leb most (liveRecords live rs) (omega arith)) first
+
+-- the first record's label, where there are as many as there may be
+module _ (w : List ℕ) (p n most : ℕ) where
+  pub room-left : n < most → 1024 ≡ firstOfFull most (recordsFrom w p n)
+  room-left h = rw (length-records w p n, lt-leb most n h)
+
+  pub none-left : (k : ℕ) → most ≤ n → k ≡ firstLabel (recordsFrom w p n) → k ≡ firstOfFull most (recordsFrom w p n)
+  none-left k h first = rw (length-records w p n, le-leb most n h) first
+
+-- where each record has live bodies, it is the first with live ones
+module _ (live : List ℕ) where
+  all-counted : (rs : List TemplateRecord) → All (λ r. 0 < getD live (r .label) 0) rs → liveRecords live rs ≡ length rs
+  unfolding liveRecords
+  all-counted [] a = refl
+  all-counted (r ∷ rs) a =
+      let ih = all-counted rs (a .1) in rw (lt-ltb 0 (getD live (r .label) 0) (a .0)) (omega (arith, ih))
+
+  first-found : (rs : List TemplateRecord) → All (λ r. 0 < getD live (r .label) 0) rs → firstLive live rs ≡ firstLabel rs
+  unfolding firstLive
+  first-found [] a = refl
+  first-found (r ∷ rs) a = rw (lt-ltb 0 (getD live (r .label) 0) (a .0))
+
+-- with no time to live each has
+pub oldest-of-all : (l : PendingFlowsConfig) (clock : ℕ) (es : List Entry) (rs : List TemplateRecord) (k : ℕ) →
+    l .ttl ≡ None → LiveRead (l .ttl) clock rs es → k ≡ firstOfFull (l .«max_pending_flows») rs →
+    k ≡ firstEvicted (l .«max_pending_flows») (liveSums (l .ttl) clock es) rs
+oldest-of-all l clock es rs k none reads first =
+    rw (all-counted live rs some, first-found live rs some) first
+  where
+    live : List ℕ
+    live = liveSums (l .ttl) clock es
+
+    some : All (λ r. 0 < getD live (r .label) 0) rs
+    some =
+        all-both (λ r. (0 < r .count) × (r .count ≡ tally (r .label) es))
+        (λ r. liveCount (l .ttl) clock (r .label) es ≡ getD live (r .label) 0) _
+        (λ r a b.
+        let all : liveCount (l .ttl) clock (r .label) es ≡ tally (r .label) es =
+        rw none (all-live clock (r .label) es) in omega (arith, a .0, a .1, b, all)) rs
+        (all-both (λ r. 0 < r .count) (λ r. r .count ≡ tally (r .label) es) _ (λ r a b. (a, b)) rs
+        (reads .some) (reads .counts))
+        (reads .live)
 
 -- with the live bodies of each label summed
 pub oldest-found : (l : PendingFlowsConfig) (clock : ℕ) (es : List Entry) (rs : List TemplateRecord) (sums : List ℕ)

@@ -98,6 +98,7 @@ module _ (w b : List ℕ) (ok : wellFormed w (length b) ≡ true) where
 
   pub held-read : (clock : ℕ) → LiveRead (limitsOf w .ttl) clock held es
   held-read clock = record {
+    some = all-front (λ r. 0 < r .count) held (tableOf w .handed) (rows .some-bodies);
     counts = all-front (λ r. r .count ≡ tally (r .label) es) held (tableOf w .handed) (rows .counts-right);
     live = all-map (λ r. r .label < 1024) _
         (λ r s. live-bodies b (limitsOf w .ttl) clock (r .label) es

@@ -3,7 +3,7 @@
 use mathlib.Core.Path.{_≡_}
 use mathlib.Core.List.{List}
 use mathlib.Core.Bool.{Bool, true, false, not, _&&_, cond}
-use Prim.Native.Nat.{ℕ, _≤_}
+use Prim.Native.Nat.{ℕ, _≤_, _<_}
 use lib.Dec.{leb, ltb}
 use lib.ListN.{length, getD, set, take, drop, replicate}
 use Rattle.config.specs.declared.Ttl.{Ttl}
@@ -17,6 +17,7 @@ use Rattle.table.specs.declared.LabelFound.{LabelFound}
 use Rattle.table.specs.declared.LabelFound.the-variants as Label
 use Rattle.table.specs.Layout.{limitsOf, heldCount}
 use Rattle.table.specs.Table.{tableOf, tally}
+use Rattle.table.specs.Passes.{firstLabel}
 use Rattle.table.specs.Reads.{labelIn, countIn, labelOf, labelOrNone, countOf, liveCount}
 use Rattle.table_entries.specs.declared.StayTest.{StayTest}
 use Rattle.table_entries.specs.Sums.{summed}
@@ -57,8 +58,9 @@ FoundHas P Record.Nothing = Unit {0}
 abbrev pub CountRight : List Entry → RecordFound → Type 0
 CountRight es x = FoundHas (λ r. r .count ≡ tally (r .label) es) x
 
--- The records' counts are right, and the live bodies of each are few enough to be summed.
+-- Each record has bodies, its count is right, and its live bodies are few enough to be summed.
 pub record LiveRead (ttl : Ttl) (clock : ℕ) (rs : List TemplateRecord) (es : List Entry) : Type 0 where
+  pub some : All (λ r. 0 < r .count) rs
   pub counts : All (λ r. r .count ≡ tally (r .label) es) rs
   pub live : All (λ r. liveCount ttl clock (r .label) es ≡ getD (liveSums ttl clock es) (r .label) 0) rs
 
@@ -75,6 +77,10 @@ othersFill Label.Nothing n most = leb most n
 -- the label of the least recent template with live bodies, where those templates are as many as there may be
 abbrev pub firstEvicted : ℕ → List ℕ → List TemplateRecord → ℕ
 firstEvicted most live rs = cond (leb most (liveRecords live rs)) (firstLive live rs) 1024
+
+-- the same where each template has live bodies
+abbrev pub firstOfFull : ℕ → List TemplateRecord → ℕ
+firstOfFull most rs = cond (leb most (length rs)) (firstLabel rs) 1024
 
 -- The decision on the records that step 2 leaves, where `live` has the live bodies of each label.
 pub record Decides (l : PendingFlowsConfig) (id : ℕ) (live : List ℕ) (rs : List TemplateRecord) (r : Decision) : Type 0

@@ -7,12 +7,14 @@ ghost use Rattle.config.specs.Limits.{recordWords, entryWords};
 ghost use Rattle.table.specs.Layout.{limitsOf, heldCount, entriesAt};
 ghost use Rattle.table.specs.Table.{tableOf, entriesFrom, recordsFrom};
 ghost use Rattle.table.specs.Reads.{labelIn};
+ghost use Rattle.table.specs.Passes.{firstLabel};
 ghost use Rattle.table.specs.WellFormed.{wellFormed};
 ghost use Rattle.cache_model.specs.Removal.{evictions};
 ghost use Rattle.pending_flows.specs.Header.{figuresAt};
 ghost use Rattle.pending_flows.specs.View.{cacheOf};
 ghost use Rattle.offer_plan.specs.Plan.{liveTest, liveSums, liveIn, CountRight};
-ghost use Rattle.offer_plan.specs.Plan.{LiveRead, othersFill, firstEvicted, Decides, NothingGoes, skipOf, Plans};
+ghost use Rattle.offer_plan.specs.Plan.{LiveRead, othersFill, firstEvicted, firstOfFull, Decides, NothingGoes};
+ghost use Rattle.offer_plan.specs.Plan.{skipOf, Plans};
 use config::PendingFlowsConfig;
 use config::RECORD_WORDS;
 use config::Ttl;
@@ -22,6 +24,7 @@ use table::RecordFound;
 use table::count_in;
 use table::label_for;
 use table::live_count;
+use table::record_at;
 use table::record_of;
 use table::records_at;
 use table_entries::StayTest;
@@ -151,7 +154,29 @@ fn first_evicted(
     first_live(words, from, records, live)
 }
 
-// The same by the entries: their live bodies are summed for it.
+// The first record's label; where there is none, what is no label.
+fn first_label(words: &[u64], from: usize, records: usize) -> u64
+    requires { ⌜ from + recordWords * records ≤ length (now words) ⌝ }
+    ensures { λ r. ⌜ r ≡ firstLabel (recordsFrom (now (words .entry)) from records) ⌝ }
+{
+    if records == 0 {
+        return LABELS as u64;
+    }
+    record_at(words, from).label
+}
+
+// The label of the least recent template, where the templates are as many as there may be; else what is no label.
+fn first_of_full(words: &[u64], from: usize, records: usize, most: usize) -> u64
+    requires { ⌜ from + recordWords * records ≤ length (now words) ⌝ }
+    ensures { λ r. ⌜ r ≡ firstOfFull most (recordsFrom (now (words .entry)) from records) ⌝ }
+{
+    if records < most {
+        return LABELS as u64;
+    }
+    first_label(words, from, records)
+}
+
+// The same by the entries, whose live bodies are summed for it. With no time to live every template has some.
 fn oldest_evicted(
     words: &[u64],
     limits: PendingFlowsConfig,
@@ -162,11 +187,16 @@ fn oldest_evicted(
 ) -> u64
     requires { ⌜ entriesAt + entryWords * entries ≤ length (now words) ⌝ }
     requires { ⌜ from + recordWords * records ≤ length (now words) ⌝ }
+    requires { ⌜ LiveRead (limits .ttl) clock (recordsFrom (now words) from records) (entriesFrom (now words) entriesAt
+        entries) ⌝ }
     ensures { λ r.
         ⌜ r ≡ firstEvicted (limits .«max_pending_flows») (liveSums (limits .ttl) clock (entriesFrom (now (words .entry))
         entriesAt entries)) (recordsFrom (now (words .entry)) from records) ⌝ }
 {
     let ttl = limits.ttl;
+    let Ttl::After(_) = ttl else {
+        return first_of_full(words, from, records, limits.max_pending_flows);
+    };
     let mut live = [0u32; LABELS];
     sums_by_label(words, entries, live_test(ttl, clock), false, &mut live);
     first_evicted(words, from, records, limits.max_pending_flows, &live)
