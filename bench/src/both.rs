@@ -2,6 +2,7 @@
 
 use crate::counts::counting;
 use crate::held::Held;
+use crate::least;
 use crate::lent::Lent;
 use crate::port;
 use crate::shape::{Call, NEW_ID, NOW, Shape, id_of};
@@ -298,5 +299,25 @@ impl Both {
             }
         };
         (time, 1)
+    }
+
+    /// The least that such an offer must do.
+    pub fn least(&mut self) -> Spent {
+        self.lent.restore();
+        let shape = self.shape;
+        let Lent { words, bytes, records_at, .. } = &mut self.lent;
+        (time_of(|| least::offer(&shape, words, *records_at, bytes)).0, 1)
+    }
+
+    /// It leaves the entries that the library leaves, but for the one that is added.
+    pub fn check_least(&mut self) {
+        self.ours();
+        let ours = self.lent.words.clone();
+        self.lent.restore();
+        let Lent { words, bytes, records_at, .. } = &mut self.lent;
+        let kept = least::offer(&self.shape, words, *records_at, bytes);
+        let end = HEADER_WORDS + ENTRY_WORDS * kept;
+        assert_eq!(ours[10], kept as u64 + 1, "{:?}", self.shape);
+        assert!(ours[HEADER_WORDS..end] == words[HEADER_WORDS..end], "{:?}", self.shape);
     }
 }

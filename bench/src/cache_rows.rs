@@ -190,15 +190,16 @@ const MOVES: [(usize, usize, usize); 10] = [
     (16, 16, 1_500),
 ];
 
-/// Offers that move what others left, beside one memmove of the same bytes. Such large moves hang
-/// on what else uses the memory in that moment, so the ratios are medians of those of the rounds.
+/// Offers that move what others left, beside one memmove of the same bytes, and beside the least
+/// that such an offer must do. Such large moves hang on what else uses the memory in that moment,
+/// so the ratios are medians of those of the rounds.
 pub fn print_moves(budget: Budget) {
     println!("\n### Offers that move bodies or entries\n");
     println!(
-        "| moved | templates | bodies | of bytes | bytes moved | ours | plain offer | memmove \
-         | ours / memmove | (ours - plain) / memmove |"
+        "| moved | templates | bodies | of bytes | bytes moved | ours | memmove | least \
+         | ours / memmove | least / memmove | ours / least |"
     );
-    println!("|---|---:|---:|---:|---:|---:|---:|---:|---:|---:|");
+    println!("|---|---:|---:|---:|---:|---:|---:|---:|---:|---:|---:|");
     for call in [Call::OfferPacks, Call::OfferEvictsBytes] {
         for (templates, bodies, length) in MOVES {
             print_move(budget, Shape::new(call, templates, bodies, false, length));
@@ -210,33 +211,31 @@ pub fn print_moves(budget: Budget) {
 }
 
 fn print_move(budget: Budget, shape: Shape) {
-    let as_many = shape.templates * shape.per;
-    let plain = Shape::new(Call::OfferHeld, shape.templates, as_many, false, LENGTH);
-    let mut states = (Both::new(shape), Both::new(plain));
+    let mut both = Both::new(shape);
+    both.check_least();
     let taken = interleaved(
         budget,
-        &mut states,
-        &mut [&mut |states| states.0.ours(), &mut |states| states.1.ours(), &mut |states| {
-            states.0.memmove()
-        }],
+        &mut both,
+        &mut [&mut Both::ours, &mut Both::memmove, &mut Both::least],
     );
-    let [ours, plain, memmove] = &taken[..] else { unreachable!("three sides") };
+    let [ours, memmove, least] = &taken[..] else { unreachable!("three sides") };
     let moved = match shape.call {
         Call::OfferPacks => "all bodies, to close a gap",
         Call::OfferEvictsBytes => "all bodies but those evicted",
         _ => "entries of bodies not evicted",
     };
     println!(
-        "| {moved} | {} | {} | {} | {} | {} | {} | {} | {} | {} |",
+        "| {moved} | {} | {} | {} | {} | {} | {} | {} | {} | {} | {} |",
         grouped(shape.templates),
         grouped(shape.bodies()),
         grouped(shape.length),
-        grouped(states.0.moved()),
+        grouped(both.moved()),
         time(ours.figure()),
-        time(plain.figure()),
         time(memmove.figure()),
+        time(least.figure()),
+        ratio(median_of(&taken, |round| round[0] / round[1])),
+        ratio(median_of(&taken, |round| round[2] / round[1])),
         ratio(median_of(&taken, |round| round[0] / round[2])),
-        ratio(median_of(&taken, |round| (round[0] - round[1]) / round[2])),
     );
 }
 

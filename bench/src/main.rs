@@ -6,6 +6,7 @@ mod cache_rows;
 mod counts;
 mod figures;
 mod held;
+mod least;
 mod lent;
 mod port;
 mod preflight_rows;

@@ -1,0 +1,83 @@
+//! The least that an offer which evicts or packs must do in this layout, written by hand, with no
+//! test and no proof: read every live word once, as the test of 28 must, and bring the entries and
+//! the bodies to where the library leaves them. Bodies that lie side by side and move as far are
+//! moved at once. The labels are the templates' numbers, and template 0 is the one that goes.
+
+use crate::shape::{Call, Shape};
+use crate::sums;
+use std::hint::black_box;
+use std::ptr;
+
+const HEADER: usize = 64;
+const EVICTED: u64 = 0;
+
+/// The words of an entry.
+type Entry = [u64; 4];
+const LABEL: usize = 0;
+const PLACE: usize = 1;
+const LENGTH: usize = 2;
+
+/// Gives how many entries stay. The live words are header with entries, and records.
+pub fn offer(shape: &Shape, words: &mut [u64], records_at: usize, bytes: &mut [u8]) -> usize {
+    let bodies = shape.bodies();
+    let front = &words[..HEADER + 4 * bodies];
+    let records = &words[records_at..records_at + 8 * shape.templates];
+    black_box(sums::scalar(black_box(front)).wrapping_add(sums::scalar(black_box(records))));
+    let (entries, _) = words[HEADER..].as_chunks_mut::<4>();
+    let entries = &mut entries[..bodies];
+    match shape.call {
+        Call::OfferPacks => pack(entries, bytes, shape.gap),
+        Call::OfferEvictsBytes => evict_and_pack(entries, bytes),
+        _ => evict(entries),
+    }
+}
+
+/// All bodies lie side by side behind the gap.
+fn pack(entries: &mut [Entry], bytes: &mut [u8], gap: usize) -> usize {
+    for entry in entries.iter_mut() {
+        entry[PLACE] -= gap as u64;
+    }
+    bytes.copy_within(gap.., 0);
+    entries.len()
+}
+
+fn evict(entries: &mut [Entry]) -> usize {
+    let mut kept = 0;
+    for at in 0..entries.len() {
+        let entry = entries[at];
+        // SAFETY: no more are kept than were passed. Each is written, kept or not, so that no branch
+        // hangs on the label.
+        unsafe { *entries.get_unchecked_mut(kept) = entry };
+        kept += usize::from(entry[LABEL] != EVICTED);
+    }
+    kept
+}
+
+fn evict_and_pack(entries: &mut [Entry], bytes: &mut [u8]) -> usize {
+    let (mut kept, mut end) = (0, 0);
+    // Where bodies that lie side by side begin, where they go, and how long they are in all.
+    let (mut from, mut to, mut length) = (0, 0, 0);
+    for at in 0..entries.len() {
+        let entry = entries[at];
+        let (place, len) = (entry[PLACE] as usize, entry[LENGTH] as usize);
+        if entry[LABEL] == EVICTED {
+            move_run(bytes, from, to, length);
+            (from, to, length) = (place + len, end, 0);
+            continue;
+        }
+        // SAFETY: no more are kept than were passed.
+        unsafe { *entries.get_unchecked_mut(kept) = [entry[0], end as u64, entry[2], entry[3]] };
+        kept += 1;
+        end += len;
+        length += len;
+    }
+    move_run(bytes, from, to, length);
+    kept
+}
+
+fn move_run(bytes: &mut [u8], from: usize, to: usize, length: usize) {
+    debug_assert!(from + length <= bytes.len() && to <= from);
+    let base = bytes.as_mut_ptr();
+    // SAFETY: the bodies lie within the bytes.
+    unsafe { ptr::copy(base.add(from), base.add(to), length) }
+}
