@@ -31,7 +31,7 @@ pub struct Both {
 
 impl Both {
     pub fn new(shape: Shape) -> Self {
-        let body = vec![3; shape.length];
+        let body = vec![3; shape.offered];
         Self { shape, lent: Lent::new(&shape), held: Held::new(&shape), body }
     }
 
@@ -62,7 +62,6 @@ impl Both {
     /// The proved library's call.
     pub fn ours(&mut self) -> Spent {
         let newest = id_of(self.shape.newest());
-        let length = self.shape.length;
         match self.shape.call {
             Call::WouldAccept | Call::Figures | Call::PlaceHandedOut => return self.our_query(),
             _ => self.lent.restore(),
@@ -71,7 +70,7 @@ impl Both {
         let limits = self.shape.limits;
         let per = self.shape.count_of(self.shape.newest());
         let Lent { words, bytes, .. } = &mut self.lent;
-        let body = black_box(&self.body[..length]);
+        let body = black_box(&self.body[..]);
         let (time, number) = match self.shape.call {
             Call::OfferHeld | Call::OfferFull | Call::OfferEvictsBytes | Call::OfferPacks => {
                 time_of(|| port::offer(words, bytes, newest, body, NOW))
@@ -283,9 +282,8 @@ impl Both {
         let moved = self.moved();
         let time = match self.shape.call {
             Call::OfferPacks | Call::OfferEvictsBytes => {
-                let Shape { call, per, length, .. } = self.shape;
-                let evicted = if call == Call::OfferPacks { 1 } else { per.div_ceil(2) };
-                let from = evicted * length;
+                let Shape { call, per, length, gap, .. } = self.shape;
+                let from = if call == Call::OfferPacks { gap } else { per.div_ceil(2) * length };
                 let to = (from + moved).min(self.lent.bytes.len());
                 let bytes = black_box(&mut self.lent.bytes);
                 time_of(|| bytes.copy_within(from..to, 0)).0

@@ -190,20 +190,27 @@ const MOVES: [(usize, usize, usize); 10] = [
     (16, 16, 1_500),
 ];
 
+/// Lengths of bodies, and gaps that they are moved by: source and target overlap.
+const GAPS: [(usize, usize); 4] = [(1_500, 1), (1_500, 31), (1_500, 100), (64, 1)];
+
 /// Offers that move what others left, beside one memmove of the same bytes, and beside the least
 /// that such an offer must do. Such large moves hang on what else uses the memory in that moment,
 /// so the ratios are medians of those of the rounds.
 pub fn print_moves(budget: Budget) {
     println!("\n### Offers that move bodies or entries\n");
     println!(
-        "| moved | templates | bodies | of bytes | bytes moved | ours | memmove | least \
+        "| moved | templates | bodies | of bytes | gap | bytes moved | ours | memmove | least \
          | ours / memmove | least / memmove | ours / least |"
     );
-    println!("|---|---:|---:|---:|---:|---:|---:|---:|---:|---:|---:|");
+    println!("|---|---:|---:|---:|---:|---:|---:|---:|---:|---:|---:|---:|");
     for call in [Call::OfferPacks, Call::OfferEvictsBytes] {
         for (templates, bodies, length) in MOVES {
             print_move(budget, Shape::new(call, templates, bodies, false, length));
         }
+    }
+    for (length, gap) in GAPS {
+        let shape = Shape::new(Call::OfferPacks, 16, 44_000, false, length);
+        print_move(budget, shape.with_gap(gap));
     }
     for (templates, bodies) in GRID.into_iter().filter(|at| at.0 > 1) {
         print_move(budget, Shape::new(Call::OfferEvicts, templates, bodies, false, LENGTH));
@@ -225,10 +232,11 @@ fn print_move(budget: Budget, shape: Shape) {
         _ => "entries of bodies not evicted",
     };
     println!(
-        "| {moved} | {} | {} | {} | {} | {} | {} | {} | {} | {} | {} |",
+        "| {moved} | {} | {} | {} | {} | {} | {} | {} | {} | {} | {} | {} |",
         grouped(shape.templates),
         grouped(shape.bodies()),
         grouped(shape.length),
+        grouped(shape.gap),
         grouped(both.moved()),
         time(ours.figure()),
         time(memmove.figure()),

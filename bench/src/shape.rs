@@ -57,6 +57,8 @@ pub struct Shape {
     pub length: usize,
     /// Free bytes before the first body.
     pub gap: usize,
+    /// The length of the offered body.
+    pub offered: usize,
     pub order: Order,
     /// Whether the newest template is handed out.
     pub handed_out: bool,
@@ -91,9 +93,16 @@ impl Shape {
             newest_has_one_less,
             length,
             gap,
+            offered: length,
             order: Order::Turns,
             handed_out: matches!(call, Call::PutBack | Call::PlaceHandedOut),
         }
+    }
+
+    /// The same with a gap before the first body that a shorter body has room in.
+    pub fn with_gap(self, gap: usize) -> Self {
+        let total = self.limits.total - self.gap + gap;
+        Self { gap, offered: gap, limits: Limits { total, ..self.limits }, ..self }
     }
 
     pub fn count_of(&self, template: usize) -> usize {
