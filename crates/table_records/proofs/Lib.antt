@@ -12,6 +12,7 @@ pub mod Closed
 pub mod AddedIndex
 pub mod Skips
 pub mod FreeLabels
+pub mod GreatestLabels
 pub mod Weights
 pub mod ClosedIndex
 pub mod Places

@@ -45,6 +45,15 @@ unfoldable pub leastFree : List ℕ → ℕ → ℕ → ℕ
 leastFree used k zero = k
 leastFree used k (suc n) = cond (eqb (getD used k 0) 0) k (leastFree used (k + 1) n)
 
+-- the greater of two numbers
+abbrev pub greaterOf : ℕ → ℕ → ℕ
+greaterOf a b = cond (ltb a b) b a
+
+-- the greatest label of these records, at least `most`
+unfoldable pub greatestLabel : ℕ → List TemplateRecord → ℕ
+greatestLabel most [] = most
+greatestLabel most (r ∷ rs) = greatestLabel (greaterOf most (r .label)) rs
+
 -- a label that none of these records has
 pub record FreeLabel (rs : List TemplateRecord) (k : ℕ) : Type 0 where
   pub below : k < 1024

@@ -5,7 +5,8 @@ ghost use lib.ListN.{length};
 ghost use Rattle.config.specs.Limits.{recordWords};
 ghost use Rattle.table.specs.Table.{recordsFrom};
 ghost use Rattle.table_records.specs.Choose.{skipping, skippingOver};
-ghost use Rattle.table_records.specs.Choose.{evictionsOf, liveRecords, firstLive, leastFree, FreeLabel};
+ghost use Rattle.table_records.specs.Choose.{evictionsOf, liveRecords, firstLive};
+ghost use Rattle.table_records.specs.Choose.{leastFree, greaterOf, greatestLabel, FreeLabel};
 use super::sums::set_sum;
 use super::sums::sum_of;
 use config::RECORD_WORDS;
@@ -14,6 +15,8 @@ use table::record_at;
 
 // More than any template has.
 const SKIP_ALL: u32 = 262144;
+
+const LAST_LABEL: u64 = 1023;
 
 // Has all bodies of the records skipped.
 pub fn skip_records(words: &[u64], from: usize, records: usize, skip: &mut [u32; LABELS])
@@ -145,11 +148,38 @@ fn least_free(used: &[u32; LABELS]) -> u64
     label
 }
 
-// A label that no record has.
+// The greater of two numbers.
+fn greater(a: u64, b: u64) -> u64
+    ensures { λ r. ⌜ r ≡ greaterOf a b ⌝ }
+{
+    if a < b { b } else { a }
+}
+
+// The greatest label of the records; 0 where there is none.
+fn greatest_label(words: &[u64], from: usize, records: usize) -> u64
+    requires { ⌜ from + recordWords * records ≤ length (now words) ⌝ }
+    ensures { λ r. ⌜ r ≡ greatestLabel 0 (recordsFrom (now (words .entry)) from records) ⌝ }
+{
+    let mut greatest: u64 = 0;
+    let mut left = records;
+    let mut p = from;
+    while left > 0 {
+        greatest = greater(greatest, record_at(words, p).label);
+        left -= 1;
+        p += RECORD_WORDS;
+    }
+    greatest
+}
+
+// A label that no record has: the next one, or, where there is none, the least.
 pub fn free_label(words: &[u64], from: usize, records: usize) -> u64
     requires { ⌜ (from + recordWords * records ≤ length (now words)) × (records < 1024) ⌝ }
     ensures { λ r. ⌜ FreeLabel (recordsFrom (now (words .entry)) from records) r ⌝ }
 {
+    let greatest = greatest_label(words, from, records);
+    if greatest < LAST_LABEL {
+        return greatest + 1;
+    }
     let mut used = [0u32; LABELS];
     skip_records(words, from, records, &mut used);
     least_free(&used)
