@@ -20,20 +20,20 @@ pub const IPFIX_VARIABLE: Preflight = netflow_preflight_ipfix_variable;
 // SAFETY of all calls below: every slice lives through the call and comes with its length, and
 // what is written does not overlap anything else.
 
+/// The number; the cost stays where the library wrote it.
 #[inline(always)]
 pub fn preflight(
     function: Preflight,
     body: &[u8],
     widths: &[u16],
     limit: usize,
-) -> (u32, [u64; 3]) {
-    let mut cost = [0; 3];
-    let number = unsafe {
+    cost: &mut [u64; 3],
+) -> u32 {
+    unsafe {
         let (body, body_len) = (body.as_ptr(), body.len());
         let (widths, widths_len) = (widths.as_ptr(), widths.len());
-        function(body, body_len, widths, widths_len, limit, &mut cost)
-    };
-    (number, cost)
+        function(body, body_len, widths, widths_len, limit, cost)
+    }
 }
 
 fn ttl_words(limits: Limits) -> (u32, u64) {

@@ -8,7 +8,10 @@ use std::hint::black_box;
 
 const VARIABLE: u16 = 65_535;
 const NO_LIMIT: usize = 65_535;
-const LENGTHS: [usize; 8] = [64, 256, 512, 1_500, 4_096, 9_000, 16_384, 65_531];
+const LENGTHS: [usize; 10] = [64, 256, 512, 1_500, 2_000, 3_000, 4_096, 9_000, 16_384, 65_531];
+
+/// The longest body.
+const LONGEST: usize = 65_531;
 
 /// Different bodies that a timed run goes through, so that no branch is known from the run before:
 /// as many as have so many bytes together, but not fewer than the first figure or more than the
@@ -137,32 +140,37 @@ fn rows(budget: Budget) -> Vec<Row> {
             rows.extend(LENGTHS.map(|length| row(budget, &reading, template, length)));
         }
     }
-    rows.into_iter().flatten().collect()
+    rows
 }
 
-fn row(budget: Budget, reading: &Reading, template: &Template, length: usize) -> Option<Row> {
-    let bodies = template.bodies(length)?;
+fn row(budget: Budget, reading: &Reading, template: &Template, length: usize) -> Row {
+    let bodies = template.bodies(length);
     let (widths, ours, rust) = (template.widths, reading.ours, reading.rust);
+    let mut cost = [0; 3];
     let mut values = 0;
     for body in &bodies {
-        let (number, cost) = preflight(ours, body, widths, NO_LIMIT);
+        let number = preflight(ours, body, widths, NO_LIMIT, &mut cost);
         assert_eq!((number, Some(cost)), (0, rust(body, widths, NO_LIMIT)), "{}", template.name);
         values += cost[0] as usize;
     }
-    let our_call = |body: &[u8]| _ = black_box(preflight(ours, body, widths, NO_LIMIT));
-    let rust_call = |body: &[u8]| _ = black_box(rust(body, widths, NO_LIMIT));
+    // Either leaves its answer in memory, and nothing copies it.
+    let mut our_call = |body: &[u8]| {
+        black_box(preflight(ours, body, widths, NO_LIMIT, &mut cost));
+        black_box(&cost);
+    };
+    let mut rust_call = |body: &[u8]| _ = black_box(rust(body, widths, NO_LIMIT));
     let taken = interleaved(
         budget,
         &mut (),
-        &mut [&mut |_| timed(&bodies, our_call), &mut |_| timed(&bodies, rust_call)],
+        &mut [&mut |_| timed(&bodies, &mut our_call), &mut |_| timed(&bodies, &mut rust_call)],
     );
-    Some(Row {
+    Row {
         name: format!("{} | {}", reading.name, template.name),
         body: bodies.iter().map(Vec::len).sum::<usize>() / bodies.len(),
         records: values / widths.len() / bodies.len(),
         ours: taken[0].figure(),
         rust: taken[1].figure(),
-    })
+    }
 }
 
 /// The length of the bodies whose instructions are counted.
@@ -175,11 +183,14 @@ pub fn counted() -> Vec<(String, usize, impl Fn(bool))> {
     for Reading { name, ours, rust, templates } in READINGS {
         for template in templates {
             let widths = template.widths;
-            let body = template.bodies(COUNTED).expect("a record fits").swap_remove(0);
-            let values = preflight(ours, &body, widths, NO_LIMIT).1[0] as usize;
+            let body = template.bodies(COUNTED).swap_remove(0);
+            let mut cost = [0; 3];
+            preflight(ours, &body, widths, NO_LIMIT, &mut cost);
+            let values = cost[0] as usize;
             let call = move |is_ours: bool| {
                 if is_ours {
-                    time_of(|| _ = black_box(preflight(ours, &body, widths, NO_LIMIT)));
+                    let mut cost = [0; 3];
+                    time_of(|| black_box(preflight(ours, &body, widths, NO_LIMIT, &mut cost)));
                 } else {
                     time_of(|| _ = black_box(rust(&body, widths, NO_LIMIT)));
                 }
@@ -190,7 +201,7 @@ pub fn counted() -> Vec<(String, usize, impl Fn(bool))> {
     cases
 }
 
-fn timed(bodies: &[Vec<u8>], call: impl Fn(&[u8])) -> (f64, u64) {
+fn timed(bodies: &[Vec<u8>], call: &mut impl FnMut(&[u8])) -> (f64, u64) {
     let (time, ()) = time_of(|| {
         for body in black_box(bodies) {
             call(body);
@@ -200,23 +211,23 @@ fn timed(bodies: &[Vec<u8>], call: impl Fn(&[u8])) -> (f64, u64) {
 }
 
 impl Template {
-    /// Bodies of as many whole records as fit; none where none fits.
-    fn bodies(&self, length: usize) -> Option<Vec<Vec<u8>>> {
+    /// Bodies of as many whole records as make up the length, or as fit into the longest body.
+    fn bodies(&self, length: usize) -> Vec<Vec<u8>> {
         let mut random = Random(0x9E37_79B9_7F4A_7C15);
         let count = (RUN_BYTES / length).clamp(FEWEST, MOST);
-        let bodies: Vec<Vec<u8>> = (0..count).map(|_| self.body(length, &mut random)).collect();
-        bodies.iter().all(|body| !body.is_empty()).then_some(bodies)
+        (0..count).map(|_| self.body(length, &mut random)).collect()
     }
 
     fn body(&self, length: usize, random: &mut Random) -> Vec<u8> {
         let mut body = Vec::new();
-        loop {
+        while body.len() < length {
             let record = self.record(random);
-            if body.len() + record.len() > length {
-                return body;
+            if body.len() + record.len() > LONGEST {
+                break;
             }
             body.extend(record);
         }
+        body
     }
 
     fn record(&self, random: &mut Random) -> Vec<u8> {

@@ -26,7 +26,9 @@ pub fn print() {
     let body = vec![1; 1_500];
     for (name, function) in [("IPFIX variable", port::IPFIX_VARIABLE), ("v9 fixed", port::V9_FIXED)]
     {
-        let mut call = || _ = black_box(port::preflight(function, &body, &[65_535, 2], 65_535));
+        let mut cost = [0; 3];
+        let widths = [65_535, 2];
+        let mut call = || _ = black_box(port::preflight(function, &body, &widths, 65_535, &mut cost));
         println!("| preflight, {name} | {} |", grouped(depth_of(&mut call)));
     }
 }
