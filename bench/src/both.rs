@@ -8,7 +8,7 @@ use crate::port;
 use crate::shape::{Call, NEW_ID, NOW, Shape, id_of};
 use crate::sums;
 use crate::timing::time_of;
-use oracle::original::Limits;
+use oracle::original::{Cache, Limits};
 use std::hint::black_box;
 
 /// Nanoseconds and calls.
@@ -72,15 +72,20 @@ impl Both {
         let Lent { words, bytes, .. } = &mut self.lent;
         let body = black_box(&self.body[..]);
         let (time, number) = match self.shape.call {
-            Call::OfferHeld | Call::OfferFull | Call::OfferEvictsBytes | Call::OfferPacks => {
-                time_of(|| port::offer(words, bytes, newest, body, NOW))
-            }
-            Call::OfferNew | Call::OfferEvicts => {
+            Call::Open => time_of(|| port::open(words, bytes, limits)),
+            Call::OfferHeld
+            | Call::OfferFull
+            | Call::OfferLong
+            | Call::OfferExpired
+            | Call::OfferEvictsBytes
+            | Call::OfferPacks => time_of(|| port::offer(words, bytes, newest, body, NOW)),
+            Call::OfferNew | Call::OfferEvicts | Call::OfferPrunes => {
                 time_of(|| port::offer(words, bytes, NEW_ID, body, NOW))
             }
-            Call::Drain => {
+            Call::Drain | Call::DrainExpired => {
                 let (time, (number, handed)) = time_of(|| port::drain(words, bytes, newest, NOW));
-                assert_eq!(handed, per as u64);
+                let live = if self.shape.call == Call::Drain { per } else { 0 };
+                assert_eq!(handed, live as u64);
                 (time, number)
             }
             Call::PutBack => time_of(|| port::put_back(words, bytes, newest, per)),
@@ -96,7 +101,11 @@ impl Both {
             Call::Clear => time_of(|| port::clear(words, bytes)),
             Call::WouldAccept | Call::Figures | Call::PlaceHandedOut => unreachable!(),
         };
-        let expected = if self.shape.call == Call::OfferFull { 20 } else { 0 };
+        let expected = match self.shape.call {
+            Call::OfferFull => 20,
+            Call::OfferLong => 6,
+            _ => 0,
+        };
         assert_eq!(number, expected, "{:?}", self.shape);
         (time, 1)
     }
@@ -131,11 +140,19 @@ impl Both {
     pub fn rust(&mut self) -> Spent {
         match self.shape.call {
             Call::WouldAccept | Call::Figures | Call::PlaceHandedOut => self.rust_query(),
-            Call::OfferHeld | Call::OfferFull | Call::OfferPacks | Call::OfferNew => {
-                self.rust_offer()
+            Call::Open => {
+                let limits = self.shape.limits;
+                (time_of(|| Cache::open(black_box(limits))).0, 1)
             }
+            Call::OfferHeld
+            | Call::OfferFull
+            | Call::OfferLong
+            | Call::OfferExpired
+            | Call::OfferPacks
+            | Call::OfferNew
+            | Call::OfferPrunes => self.rust_offer(),
             Call::OfferEvicts | Call::OfferEvictsBytes => self.rust_eviction(),
-            Call::Drain | Call::PutBack => self.rust_drain(),
+            Call::Drain | Call::DrainExpired | Call::PutBack => self.rust_drain(),
             Call::Resize | Call::ResizeHalves | Call::Clear => self.rust_removal(),
         }
     }
@@ -161,14 +178,24 @@ impl Both {
 
     /// The original takes the body itself, so its copy is in the timed part.
     fn rust_offer(&mut self) -> Spent {
-        let id = if self.shape.call == Call::OfferNew { NEW_ID } else { self.held.newest() };
+        let id = match self.shape.call {
+            Call::OfferNew | Call::OfferPrunes => NEW_ID,
+            _ => self.held.newest(),
+        };
         let body = black_box(&self.body[..]);
         let cache = &mut self.held.cache;
         let (time, refused) = time_of(|| cache.offer(id, body.to_vec(), NOW));
-        assert_eq!(refused.is_some(), self.shape.call == Call::OfferFull);
+        let refuses = matches!(self.shape.call, Call::OfferFull | Call::OfferLong);
+        assert_eq!(refused.is_some(), refuses);
         match self.shape.call {
-            Call::OfferFull => (),
+            Call::OfferFull | Call::OfferLong => (),
             Call::OfferNew => assert_eq!(cache.drain(id, NOW).len(), 1),
+            Call::OfferPrunes => {
+                assert_eq!(cache.drain(id, NOW).len(), 1);
+                let shape = self.shape;
+                self.held.fill(&shape);
+            }
+            Call::OfferExpired => self.held.put_expired(),
             _ => self.held.take_back(id),
         }
         (time, 1)
@@ -199,6 +226,12 @@ impl Both {
     fn rust_drain(&mut self) -> Spent {
         let id = self.held.newest();
         let cache = &mut self.held.cache;
+        if self.shape.call == Call::DrainExpired {
+            let (time, bodies) = time_of(|| cache.drain(id, NOW));
+            assert!(bodies.is_empty());
+            self.held.put_expired();
+            return (time, 1);
+        }
         if self.shape.call == Call::Drain {
             let (time, bodies) = time_of(|| cache.drain(id, NOW));
             cache.restore_replay_suffix(id, bodies);

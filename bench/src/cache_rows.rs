@@ -44,7 +44,8 @@ const fn table(call: Call, ttl: bool, name: &'static str, most: Option<(f64, f64
     Table { call, ttl, name, most }
 }
 
-pub const TABLES: [Table; 17] = [
+pub const TABLES: [Table; 22] = [
+    table(Call::Open, false, "open", None),
     table(Call::WouldAccept, false, "would_accept", QUERY),
     table(Call::WouldAccept, true, "would_accept, with a TTL", QUERY),
     table(Call::Figures, false, "figures", QUERY),
@@ -54,9 +55,13 @@ pub const TABLES: [Table; 17] = [
     table(Call::OfferNew, false, "offer to a new id", OFFER),
     table(Call::OfferNew, true, "offer to a new id, with a TTL", OFFER),
     table(Call::OfferFull, false, "offer refused with 20", OFFER),
+    table(Call::OfferLong, false, "offer refused with 6", OFFER),
+    table(Call::OfferExpired, true, "offer to a held id whose bodies are expired", None),
+    table(Call::OfferPrunes, true, "offer to a new id that prunes all bodies", None),
     table(Call::OfferEvicts, false, "offer to a new id that evicts a template", None),
     table(Call::Drain, false, "drain", DRAIN),
     table(Call::Drain, true, "drain, with a TTL", DRAIN),
+    table(Call::DrainExpired, true, "drain of an id whose bodies are expired", DRAIN),
     table(Call::PutBack, false, "put-back of all that was handed out", None),
     table(Call::Resize, false, "resize that changes nothing", None),
     table(Call::ResizeHalves, false, "resize to half the templates", None),

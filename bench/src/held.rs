@@ -33,7 +33,8 @@ impl Held {
     pub fn fill(&mut self, shape: &Shape) {
         self.order.clear();
         for template in 0..shape.templates {
-            let bodies = Bodies::of(shape.count_of(template), self.length, 0);
+            let clock = shape.cached_at(template);
+            let bodies = Bodies::of(shape.count_of(template), self.length, clock);
             self.cache.restore_replay_suffix(id_of(template), bodies);
             self.order.push_back(id_of(template));
         }
@@ -48,6 +49,13 @@ impl Held {
     pub fn add(&mut self, id: u16) {
         self.cache.restore_replay_suffix(id, Bodies::of(self.per, self.length, 0));
         self.order.push_back(id);
+    }
+
+    /// Puts the bodies of the newest template back that were expired, in the place of what it has.
+    pub fn put_expired(&mut self) {
+        let newest = self.newest();
+        self.cache.drain(newest, NOW);
+        self.cache.restore_replay_suffix(newest, Bodies::of(self.per, self.length, 0));
     }
 
     /// Takes the last body of an id away that was just offered, and leaves the id newest.

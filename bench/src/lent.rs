@@ -1,7 +1,7 @@
 //! Lent areas with a cache in them, written by docs/LAYOUT.md.
 
 use crate::port;
-use crate::shape::{Shape, id_of};
+use crate::shape::{Expired, Shape, id_of};
 use std::hint::black_box;
 
 const HEADER: usize = 64;
@@ -83,7 +83,9 @@ fn front(shape: &Shape) -> Vec<u64> {
     }
     for (at, template) in shape.arrivals().into_iter().enumerate() {
         let place = shape.gap + at * shape.length;
-        words.extend([template, place, shape.length, at].map(|word| word as u64));
+        let clock =
+            if shape.expired == Expired::None { at as u64 } else { shape.cached_at(template) };
+        words.extend([template as u64, place as u64, shape.length as u64, clock]);
     }
     words
 }

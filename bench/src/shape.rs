@@ -10,6 +10,18 @@ const MOST_TEMPLATES: usize = 1_024;
 /// Longer than any run's clock readings: nothing is expired.
 const TTL: u64 = 1_000_000_000_000;
 
+/// With this one, bodies that were cached at 0 are expired at `NOW`, and those of `NOW` are not.
+const SHORT_TTL: u64 = 1_000;
+
+/// Whose bodies are expired.
+#[derive(Clone, Copy, PartialEq, Eq, Debug)]
+pub enum Expired {
+    None,
+    /// Those of the newest template.
+    Newest,
+    All,
+}
+
 /// The order in which the bodies arrived.
 #[derive(Clone, Copy, PartialEq, Eq, Debug)]
 pub enum Order {
@@ -24,6 +36,7 @@ pub enum Order {
 /// The measured calls.
 #[derive(Clone, Copy, PartialEq, Eq, Debug)]
 pub enum Call {
+    Open,
     WouldAccept,
     Figures,
     PlaceHandedOut,
@@ -36,7 +49,15 @@ pub enum Call {
     OfferEvictsBytes,
     /// A held id where the bytes have room, but in front of the bodies only.
     OfferPacks,
+    /// A body over the entry size, refused with 6.
+    OfferLong,
+    /// A held id, all of whose bodies are expired.
+    OfferExpired,
+    /// A new id where the templates are at their limit, and all bodies are expired.
+    OfferPrunes,
     Drain,
+    /// An id, all of whose bodies are expired.
+    DrainExpired,
     PutBack,
     Resize,
     /// To half the templates.
@@ -59,6 +80,7 @@ pub struct Shape {
     pub gap: usize,
     /// The length of the offered body.
     pub offered: usize,
+    pub expired: Expired,
     pub order: Order,
     /// Whether the newest template is handed out.
     pub handed_out: bool,
@@ -84,7 +106,12 @@ impl Shape {
             _ => (bodies + 1) * length,
         };
         assert!(total <= MOST_BYTES, "{total} bytes");
-        let ttl = ttl.then_some(TTL);
+        let expired = match call {
+            Call::OfferExpired | Call::DrainExpired => Expired::Newest,
+            Call::OfferPrunes => Expired::All,
+            _ => Expired::None,
+        };
+        let ttl = ttl.then_some(if expired == Expired::None { TTL } else { SHORT_TTL });
         Self {
             call,
             limits: Limits { templates: most, bodies: cap, entry: length, total, ttl },
@@ -93,7 +120,8 @@ impl Shape {
             newest_has_one_less,
             length,
             gap,
-            offered: length,
+            offered: length + usize::from(call == Call::OfferLong),
+            expired,
             order: Order::Turns,
             handed_out: matches!(call, Call::PutBack | Call::PlaceHandedOut),
         }
@@ -107,6 +135,14 @@ impl Shape {
 
     pub fn count_of(&self, template: usize) -> usize {
         self.per - usize::from(self.newest_has_one_less && template == self.newest())
+    }
+
+    /// When the bodies of a template were cached, where some are expired.
+    pub fn cached_at(&self, template: usize) -> u64 {
+        match self.expired {
+            Expired::Newest if template != self.newest() => NOW,
+            _ => 0,
+        }
     }
 
     pub fn newest(&self) -> usize {

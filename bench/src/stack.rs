@@ -28,7 +28,8 @@ pub fn print() {
     {
         let mut cost = [0; 3];
         let widths = [65_535, 2];
-        let mut call = || _ = black_box(port::preflight(function, &body, &widths, 65_535, &mut cost));
+        let mut call =
+            || _ = black_box(port::preflight(function, &body, &widths, 65_535, &mut cost));
         println!("| preflight, {name} | {} |", grouped(depth_of(&mut call)));
     }
 }
