@@ -43,7 +43,7 @@ enum netflow_number {
 
     /* from the state */
     NETFLOW_TEMPLATE_FULL = 20,     /* the template holds max_entries_per_template bodies */
-    NETFLOW_OVER_TOTAL = 21,        /* no template left to evict: no cache comes to it */
+    NETFLOW_OVER_TOTAL = 21,        /* no template left to evict: proved to be never answered */
     NETFLOW_TEMPORARILY_DOES_NOT_FIT = 22, /* a cost above what remains of the budget */
     NETFLOW_VALUES_EXCEEDED = 23,   /* a reservation past the limit of field values */
     NETFLOW_PAYLOAD_EXCEEDED = 24,  /* a reservation past the limit of payload bytes */
@@ -57,8 +57,16 @@ enum netflow_number {
 
 /*
  * A body is what follows the 4-byte header of a data set; widths are those of its template's fields.
- * 0 writes field values, payload bytes and the length of the remainder. Refused: 9, 12, 7.
+ * 0 writes field values, payload bytes and the length of the remainder. Refused, tested in this
+ * order: 9, 12, 7.
  */
+
+/* above these 12 */
+#define NETFLOW_PREFLIGHT_MAX_BODY 65531
+#define NETFLOW_PREFLIGHT_MAX_WIDTHS 65535
+
+/* the width of a field of variable length, in that reading alone; in both others a plain width */
+#define NETFLOW_VARIABLE_LENGTH 65535
 
 /* NetFlow v9: a remainder of up to 3 bytes that is shorter than a record. */
 uint32_t netflow_preflight_v9_fixed(const uint8_t *body, size_t body_len, const uint16_t *widths,
@@ -69,7 +77,7 @@ uint32_t netflow_preflight_ipfix_fixed(const uint8_t *body, size_t body_len,
                                        const uint16_t *widths, size_t widths_len,
                                        size_t max_records, uint64_t cost[3]);
 
-/* IPFIX in which a field of width 65,535 begins with its own length. */
+/* IPFIX in which a field of width NETFLOW_VARIABLE_LENGTH begins with its own length. */
 uint32_t netflow_preflight_ipfix_variable(const uint8_t *body, size_t body_len,
                                           const uint16_t *widths, size_t widths_len,
                                           size_t max_records, uint64_t cost[3]);
@@ -80,11 +88,12 @@ uint32_t netflow_preflight_ipfix_variable(const uint8_t *body, size_t body_len,
  * A cache lives in two areas that the caller lends to each call: words and bytes, always the same
  * ones, which nobody else writes in between. docs/LAYOUT.md says what stands in them.
  *
- * A clock reading is a count of nanoseconds. A body is expired where a TTL is set and the reading
- * is at least the TTL above that of its offer.
+ * A clock reading is a count of nanoseconds. A body's age is the reading less that of its offer, or
+ * 0 if the reading is the earlier one. It is expired where a TTL is set and its age is at least the
+ * TTL; so a TTL of 0 expires everything.
  *
- * Every call but opening answers 28 first, and changes nothing, where the areas hold no well-formed
- * cache.
+ * Every function that is lent the areas, but for opening, answers 28 first, and changes nothing,
+ * where they hold no well-formed cache.
  */
 
 /* the highest limits that there are */
@@ -105,8 +114,9 @@ uint32_t netflow_pending_validate_config(size_t words_len, size_t bytes_len,
                                          size_t max_entry_size_bytes, size_t max_total_bytes);
 
 /*
- * Opens an empty cache in areas with any content. No TTL where has_ttl is 0; else bodies expire at
- * an age of ttl nanoseconds. Refused, with nothing changed: 1 to 5.
+ * Opens an empty cache in areas with any content, unset memory too (of automatic arrays that were
+ * never set compilers may warn; static ones are set). No TTL where has_ttl is 0; else bodies expire
+ * at an age of ttl nanoseconds. Refused, with nothing changed: 1 to 5.
  */
 uint32_t netflow_pending_open(uint64_t *words, size_t words_len, const uint8_t *bytes,
                               size_t bytes_len, size_t max_pending_flows,

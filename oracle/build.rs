@@ -51,8 +51,13 @@ fn folder(variable: &str, default: &str) -> PathBuf {
 fn prepare(source: &Path, name: &str, out: &Path) {
     let from = source.join(name);
     println!("cargo::rerun-if-changed={}", from.display());
-    let text = fs::read_to_string(&from)
-        .unwrap_or_else(|error| panic!("original text {}: {error}", from.display()));
+    let text = fs::read_to_string(&from).unwrap_or_else(|error| {
+        panic!(
+            "original text {}: {error}; name the folder src of netflow_parser 1.0.6 in \
+            NETFLOW_PARSER_SRC",
+            from.display()
+        )
+    });
     fs::write(out.join(name), with_replaced(name, plain_head(&text)))
         .expect("OUT_DIR can be written");
 }

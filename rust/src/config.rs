@@ -63,11 +63,19 @@ pub enum ConfigError {
     /// Number 3: pending flow max entry size must be between 1 and 65531 (u16::MAX - 4).
     InvalidEntrySize(usize),
     /// Number 4: pending flow max_total_bytes must be >= max_entry_size_bytes.
-    InvalidPendingTotalBytes { max_total_bytes: usize, max_entry_size_bytes: usize },
+    InvalidPendingTotalBytes {
+        /// The limit that is 0 or too low.
+        max_total_bytes: usize,
+        /// What it must reach.
+        max_entry_size_bytes: usize,
+    },
     /// Number 5, which the original does not have: no cache is as large as that.
     PendingLimitsTooLarge {
+        /// At most 1,024.
         max_pending_flows: usize,
+        /// At most 262,144 over `max_pending_flows`.
         max_entries_per_template: usize,
+        /// At most 67,108,864.
         max_total_bytes: usize,
     },
     /// Number 9: max records per flowset must be greater than 0.

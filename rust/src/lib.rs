@@ -23,6 +23,7 @@
 //! # Ok::<(), netflow_pending::ConfigError>(())
 //! ```
 
+#![deny(missing_docs)]
 #![deny(unsafe_code)]
 
 // Counts pass between usize and 64 bits with no loss.

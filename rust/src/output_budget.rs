@@ -49,10 +49,12 @@ impl DecodedOutputLimits {
         Ok(Self { max_records, max_field_values, max_field_payload_bytes })
     }
 
+    /// The most records of one body.
     pub fn max_records(self) -> usize {
         self.max_records
     }
 
+    /// An unused budget with the two limits of the output.
     pub fn budget(self) -> DecodedOutputBudget {
         DecodedOutputBudget::new(self.max_field_values, self.max_field_payload_bytes)
     }
@@ -72,8 +74,11 @@ impl Default for DecodedOutputLimits {
 /// (`usize::MAX` where the sum overflows).
 #[derive(Debug, Clone, Copy, PartialEq, Eq)]
 pub struct OutputBudgetExceeded {
+    /// Which limit it is.
     pub limit: DecodedOutputLimit,
+    /// What it is set to.
     pub configured: usize,
+    /// The use with what was to be added.
     pub attempted: usize,
 }
 
@@ -96,7 +101,7 @@ pub enum PendingOutputError {
     TemporarilyDoesNotFit,
     /// Number 8: above the whole budget.
     NeverFits,
-    /// Number 7.
+    /// Number 7: no valid framing, or decoded otherwise than the preflight says.
     Invalid,
 }
 
@@ -110,10 +115,14 @@ impl PendingOutputError {
     }
 }
 
+/// What became of a queued body when its template had come.
 #[derive(Debug, Clone, Copy, PartialEq, Eq)]
 pub enum PendingReplayOutcome {
+    /// It was decoded.
     Replayed,
+    /// It is to wait for another message.
     TemporarilyDoesNotFit,
+    /// It never fits, or is not valid.
     Failed,
 }
 
@@ -142,14 +151,17 @@ impl DecodedOutputBudget {
         Self(BudgetWords::new(max_values as u64, max_payload_bytes as u64))
     }
 
+    /// Nothing used and nothing recorded.
     pub fn reset(&mut self) {
         self.0.reset();
     }
 
+    /// Other limits, any, with nothing used and nothing recorded.
     pub fn set_limits(&mut self, max_values: usize, max_payload_bytes: usize) {
         self.0.set_limits(max_values as u64, max_payload_bytes as u64);
     }
 
+    /// The use, to roll back to.
     pub fn checkpoint(&self) -> (usize, usize) {
         self.used()
     }
@@ -191,19 +203,23 @@ impl DecodedOutputBudget {
         })
     }
 
+    /// The recorded excess, which is recorded no longer.
     pub fn take_exceeded(&mut self) -> Option<OutputBudgetExceeded> {
         OutputBudgetExceeded::of_words(self.0.take_exceeded())
     }
 
+    /// Whether an excess is recorded.
     pub fn is_exceeded(&self) -> bool {
         self.0.is_exceeded()
     }
 
+    /// Field values and payload bytes in use.
     pub fn used(&self) -> (usize, usize) {
         let [_, _, values, payload, ..] = self.0.0;
         (values as usize, payload as usize)
     }
 
+    /// Field values and payload bytes up to the limits.
     pub fn remaining(&self) -> (usize, usize) {
         let [values, payload] = self.0.remaining();
         (values as usize, payload as usize)

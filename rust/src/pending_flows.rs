@@ -14,17 +14,24 @@ mod damaged;
 /// A drained entry: raw data with the time at which it was cached.
 #[derive(Debug, Clone, PartialEq, Eq)]
 pub struct PendingFlowEntry {
+    /// The body, without the 4-byte header of its flowset.
     pub raw_data: Vec<u8>,
+    /// When it was cached, by the clock of that call.
     pub cached_at: Instant,
 }
 
-/// What a cache holds and has counted since it was made.
+/// What a cache holds, and what it has counted.
 #[derive(Debug, Clone, Copy, PartialEq, Eq)]
 pub struct Figures {
+    /// Template IDs that are held.
     pub templates: usize,
+    /// Bodies that are held, over all template IDs.
     pub bodies: usize,
+    /// The sum of their lengths.
     pub bytes: usize,
+    /// See [`PendingFlowCache::pending_cached`].
     pub pending_cached: u64,
+    /// See [`PendingFlowCache::pending_dropped`].
     pub pending_dropped: u64,
     /// Bodies of the last drain that may still be put back.
     pub handed_out: usize,
@@ -41,13 +48,16 @@ pub struct Figures {
 /// (the original reads it for each entry). Calls by name and calls `_at` a clock of one's own
 /// should not be mixed on one cache.
 ///
+/// Every call goes through all entries (see number 28), so its time grows with what is held, where
+/// most of the original's look at one template. docs/BENCHMARKS.md has the figures.
+///
 /// # Number 28
 ///
 /// Every proved call first tests whether the areas hold a well-formed cache, and answers 28 and
 /// changes nothing where not. Safe code cannot bring that about: nobody else has the areas, and
 /// every call is proved to leave a well-formed cache. Should it happen all the same (memory
 /// overwritten by unsafe code elsewhere), nothing panics: [`cache`](Self::cache) gives the data
-/// back and counts a drop, [`would_accept`](Self::would_accept) says no,
+/// back and counts a drop in the metrics, [`would_accept`](Self::would_accept) says no,
 /// [`drain`](Self::drain) hands out nothing, a put-back is refused and [`count`](Self::count) is
 /// 0, until [`clear`](Self::clear) or [`resize`](Self::resize) opens an empty cache in the areas.
 /// [`is_damaged`](Self::is_damaged) tells.
@@ -56,8 +66,8 @@ pub struct PendingFlowCache {
     config: PendingFlowsConfig,
     /// Clock 0.
     origin: Instant,
-    /// Entries of refused put-backs, to be counted by the next call that has metrics.
-    uncounted_drops: u64,
+    /// Entries that `restore_replay_suffix` refused.
+    refused_put_backs: u64,
 }
 
 impl PendingFlowCache {
@@ -85,7 +95,7 @@ impl PendingFlowCache {
         let (words, bytes) = layout::need(&config);
         let mut areas = Areas { words: vec![0; words], bytes: vec![0; bytes] };
         areas.open(&config).map_err(|number| ConfigError::of_limits(number, &config))?;
-        Ok(Self { areas, config, origin: Instant::now(), uncounted_drops: 0 })
+        Ok(Self { areas, config, origin: Instant::now(), refused_put_backs: 0 })
     }
 
     /// Best-effort check whether the cache would accept a new entry for `template_id` with
@@ -130,8 +140,11 @@ impl PendingFlowCache {
 
     /// Drain pending flows for a given template ID, filtering expired entries.
     ///
-    /// Hands out copies, oldest first; a put-back needs the bodies themselves, which stay in the
-    /// areas until it can come no more.
+    /// Hands out copies, oldest first.
+    ///
+    /// # Unlike the original
+    /// The original moves its entries out. Here a put-back needs the bodies themselves, which stay
+    /// in the areas until it can come no more.
     pub fn drain(
         &mut self,
         template_id: u16,
@@ -160,17 +173,18 @@ impl PendingFlowCache {
     /// The original takes any entries under any ID, and loses others in doing so. Here they must
     /// be the last ones of the last drain, unaltered, with no `cache`, `drain`, `resize`, `clear`
     /// or put-back since (one that was refused with `Some` for its size, and a refused resize,
-    /// aside). Any others are refused (number 25) and nothing changes; as this method cannot say
-    /// so, the next call that has metrics counts them in `pending_dropped`. See
-    /// [`try_restore_replay_suffix`](Self::try_restore_replay_suffix).
+    /// aside). Any others are refused (number 25): they are freed and nothing changes. They were
+    /// handed out and are no drops, so neither the metrics nor `pending_dropped` rise. As this
+    /// method cannot say so, [`refused_put_backs`](Self::refused_put_backs) counts them;
+    /// [`try_restore_replay_suffix`](Self::try_restore_replay_suffix) gives them back.
     pub fn restore_replay_suffix(&mut self, template_id: u16, entries: Vec<PendingFlowEntry>) {
         if let Err(refused) = self.try_restore_replay_suffix(template_id, entries) {
-            self.uncounted_drops = self.uncounted_drops.saturating_add(refused.len() as u64);
+            self.refused_put_backs = self.refused_put_backs.saturating_add(refused.len() as u64);
         }
     }
 
-    /// [`restore_replay_suffix`](Self::restore_replay_suffix) that gives refused entries back and
-    /// counts nothing.
+    /// [`restore_replay_suffix`](Self::restore_replay_suffix) that gives refused entries back, and
+    /// does not count them in [`refused_put_backs`](Self::refused_put_backs).
     pub fn try_restore_replay_suffix(
         &mut self,
         template_id: u16,
@@ -254,14 +268,24 @@ impl PendingFlowCache {
         })
     }
 
-    /// Entries cached since the cache was made.
+    /// Entries cached since the cache was made, or opened anew after number 28. As it stands in the
+    /// areas: [`figures`](Self::figures) tests them first.
     pub fn pending_cached(&self) -> u64 {
         layout::counters(&self.areas.words).0
     }
 
-    /// Entries dropped since the cache was made.
+    /// Entries evicted or expired, and offers refused (numbers 6 and 20), since the cache was made
+    /// or opened anew after number 28. As it stands in the areas: [`figures`](Self::figures) tests
+    /// them first. Not the offers refused with 28, which the metrics alone count.
     pub fn pending_dropped(&self) -> u64 {
         layout::counters(&self.areas.words).1
+    }
+
+    /// Entries that [`restore_replay_suffix`](Self::restore_replay_suffix) refused since the cache
+    /// was made. Above 0, a caller put back something else than the last drain's suffix, and what
+    /// it kept no copy of is lost.
+    pub fn refused_put_backs(&self) -> u64 {
+        self.refused_put_backs
     }
 
     /// A body that the last drain handed out, numbered from 0 and oldest first, as long as it may
@@ -298,8 +322,7 @@ impl PendingFlowCache {
         if cached_now > cached {
             metrics.record_pending_cached();
         }
-        let uncounted = std::mem::take(&mut self.uncounted_drops);
-        let drops = dropped_now.saturating_sub(dropped).saturating_add(uncounted);
+        let drops = dropped_now.saturating_sub(dropped);
         if drops > 0 {
             metrics.record_pending_dropped_n(drops);
         }

@@ -5,7 +5,9 @@ use crate::ffi::{self, Reading};
 /// Which padding a body may end with. The original has it in `wire.rs`.
 #[derive(Debug, Clone, Copy, PartialEq, Eq)]
 pub enum RecordBodyKind {
+    /// Up to three bytes, fewer than a record has.
     NetFlowV9,
+    /// Fewer bytes than a record has at least.
     Ipfix,
 }
 
@@ -18,8 +20,11 @@ const MOST_WIDTHS: usize = 65_535;
 /// Exact framing and decoded-cost result for one queued body.
 #[derive(Debug, Clone, Copy, PartialEq, Eq)]
 pub struct PendingOutputPreflight {
+    /// Records × fields.
     pub field_values: usize,
+    /// The bytes of all values, without the prefixes that give a length.
     pub field_payload_bytes: usize,
+    /// The padding after the last record.
     pub remainder_len: usize,
 }
 

@@ -1,7 +1,8 @@
 //! Writes the module lines of the original's files, which stand beside the repository and are
-//! compiled there as they are.
+//! compiled there as they are; `config.rs` is edited by `config.sed` first.
 
-use std::path::PathBuf;
+use std::path::{Path, PathBuf};
+use std::process::Command;
 use std::{env, fs};
 
 /// The files that stay as they are. `output_budget` goes with the feature of that name.
@@ -18,14 +19,30 @@ fn main() {
         Some(chosen) => package.join(chosen),
         None => package.join(DEFAULT_SOURCE),
     };
+    let out = PathBuf::from(env::var_os("OUT_DIR").expect("cargo sets OUT_DIR"));
     let mut modules = String::new();
     let swaps_budget = env::var_os("CARGO_FEATURE_OUTPUT_BUDGET").is_some();
     for name in ORIGINALS.into_iter().filter(|name| !(swaps_budget && *name == "output_budget")) {
-        let file = source.join("variable_versions").join(format!("{name}.rs"));
-        assert!(file.is_file(), "original text {}", file.display());
+        let mut file = source.join("variable_versions").join(format!("{name}.rs"));
+        assert!(
+            file.is_file(),
+            "original text {}: name the folder src of netflow_parser 1.0.6 in NETFLOW_PARSER_SRC",
+            file.display()
+        );
         println!("cargo::rerun-if-changed={}", file.display());
+        if name == "config" {
+            file = edited(&file, &package.join("config.sed"), out.join("config.rs"));
+        }
         modules += &format!("#[path = {:?}]\npub(crate) mod {name};\n", file.display().to_string());
     }
-    let out = PathBuf::from(env::var_os("OUT_DIR").expect("cargo sets OUT_DIR"));
     fs::write(out.join("originals.rs"), modules).expect("OUT_DIR can be written");
+}
+
+/// Where the edited text was written.
+fn edited(file: &Path, edit: &Path, to: PathBuf) -> PathBuf {
+    println!("cargo::rerun-if-changed={}", edit.display());
+    let sed = Command::new("sed").arg("-f").arg(edit).arg(file).output().expect("sed can be run");
+    assert!(sed.status.success(), "{}", String::from_utf8_lossy(&sed.stderr));
+    fs::write(&to, sed.stdout).expect("OUT_DIR can be written");
+    to
 }

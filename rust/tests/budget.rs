@@ -189,6 +189,7 @@ fn sequences() {
             call = generator.next(&original.state());
         }
     }
+    assert_eq!(calls, 300_002);
     let seen: Vec<u32> = numbers.into_keys().collect();
     assert_eq!(seen, [0, 7, 8, 9, 10, 11, 22, 23, 24, 26]);
 }

@@ -81,8 +81,7 @@ fn a_suffix_is_put_back() {
     assert_eq!(metrics, counters(3, 0));
 }
 
-/// Entries that are not the last ones of the last drain: nothing changes, and the next call that
-/// has metrics counts them.
+/// Entries that are not the last ones of the last drain: nothing changes.
 #[test]
 fn other_entries_are_refused() {
     let (mut cache, mut metrics) = open(None);
@@ -107,14 +106,33 @@ fn other_entries_are_refused() {
         assert_eq!(refused, Err(entries));
     }
     assert!(cache.try_restore_replay_suffix(301, drained.clone()).is_err());
-    assert_eq!((cache.count(), metrics), (0, counters(2, 0)));
-
-    cache.restore_replay_suffix(301, drained.clone());
-    assert_eq!(metrics, counters(2, 0));
-    cache.restore_replay_suffix(300, drained.clone());
+    assert_eq!((cache.count(), cache.refused_put_backs(), metrics), (0, 0, counters(2, 0)));
     cache.restore_replay_suffix(300, drained.clone());
     assert_eq!((cache.count(), cache.drain(300, &mut metrics)), (2, drained));
-    assert_eq!(metrics, counters(2, 4));
+}
+
+/// A refused put-back is no drop, also where its entries are put back after all.
+#[test]
+fn refused_put_backs_are_counted_apart() {
+    let (mut cache, mut metrics) = open(None);
+    for body in [[1, 1], [2, 2]] {
+        assert_eq!(cache.cache(300, body.to_vec(), &mut metrics), None);
+    }
+    let drained = cache.drain(300, &mut metrics);
+    cache.restore_replay_suffix(301, drained.clone());
+    assert_eq!((cache.count(), cache.refused_put_backs()), (0, 2));
+    cache.restore_replay_suffix(300, drained.clone());
+    assert_eq!((cache.count(), cache.refused_put_backs()), (2, 2));
+    cache.restore_replay_suffix(300, drained[1..].to_vec());
+    cache.restore_replay_suffix(302, Vec::new());
+    assert_eq!((cache.count(), cache.refused_put_backs()), (2, 3));
+
+    assert_eq!(cache.drain(300, &mut metrics), drained);
+    assert_eq!(cache.cache(301, vec![3], &mut metrics), None);
+    cache.restore_replay_suffix(300, drained);
+    assert_eq!((cache.count(), cache.refused_put_backs()), (1, 5));
+    assert_eq!(metrics, counters(3, 0));
+    assert_eq!((cache.pending_cached(), cache.pending_dropped()), (3, 0));
 }
 
 #[test]

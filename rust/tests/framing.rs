@@ -63,7 +63,9 @@ fn compare(case: &Case) -> u32 {
 
 #[test]
 fn recorded() {
-    for case in recorded_cases().cases() {
+    let recorded = recorded_cases();
+    assert_eq!(recorded.cases().len(), 6_000);
+    for case in recorded.cases() {
         compare(case);
     }
 }

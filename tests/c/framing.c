@@ -15,10 +15,10 @@ struct framing_case {
     uint64_t expected[4]; /* number, field values, payload bytes, remainder */
 };
 
-static const uint8_t zeros[65532];
+static const uint8_t zeros[NETFLOW_PREFLIGHT_MAX_BODY + 1];
 static const uint16_t fixed[] = {4, 4};
-static const uint16_t variable[] = {65535, 2};
-static const uint16_t many[65536];
+static const uint16_t variable[] = {NETFLOW_VARIABLE_LENGTH, 2};
+static const uint16_t many[NETFLOW_PREFLIGHT_MAX_WIDTHS + 1];
 
 static const uint8_t one_record[] = {0x03, 0x61, 0x62, 0x63, 0x00, 0x50};
 static const uint8_t two_zeros_after[] = {0x03, 0x61, 0x62, 0x63, 0x00, 0x50, 0x00, 0x00};
@@ -50,8 +50,14 @@ static const struct framing_case cases[] = {
     {"no bytes", V9, zeros, 0, fixed, 2, LIMIT, REFUSED(NETFLOW_INVALID)},
     {"no widths", V9, zeros, 8, fixed, 0, LIMIT, REFUSED(NETFLOW_INVALID)},
     {"record limit 0", V9, zeros, 8, fixed, 2, 0, REFUSED(NETFLOW_ZERO_RECORDS)},
-    {"65,532 bytes", V9, zeros, 65532, fixed, 2, LIMIT, REFUSED(NETFLOW_OVERSIZED)},
-    {"65,536 widths", IPFIX, zeros, 8, many, 65536, LIMIT, REFUSED(NETFLOW_OVERSIZED)},
+    {"65,531 bytes", IPFIX, zeros, NETFLOW_PREFLIGHT_MAX_BODY, fixed, 2, LIMIT,
+     {0, 16382, 65528, 3}},
+    {"65,532 bytes", IPFIX, zeros, NETFLOW_PREFLIGHT_MAX_BODY + 1, fixed, 2, LIMIT,
+     REFUSED(NETFLOW_OVERSIZED)},
+    {"65,535 widths of 0", IPFIX, zeros, 8, many, NETFLOW_PREFLIGHT_MAX_WIDTHS, LIMIT,
+     REFUSED(NETFLOW_INVALID)},
+    {"65,536 widths of 0", IPFIX, zeros, 8, many, NETFLOW_PREFLIGHT_MAX_WIDTHS + 1, LIMIT,
+     REFUSED(NETFLOW_OVERSIZED)},
 };
 
 void run_framing_cases(void)

