@@ -197,7 +197,7 @@ pub fn drain(words: &mut [u64], bytes: &[u8], id: u16, clock: u64) -> DrainAnswe
         ⌜ Drains id clock (areasOf (now (words .entry)) (now (bytes .entry))) r
         (areasOf (now (words .exit)) (now (bytes .exit))) ⌝ }
 {
-    if table::well_formed(words, bytes.len()) {
+    if table_check::well_formed(words, bytes.len()) {
         return DrainAnswer::HandedOut(drain_cache(words, bytes, id as u64, clock));
     }
     DrainAnswer::Damaged
