@@ -35,7 +35,7 @@ use table::live_count;
 use table::records_at;
 use table_entries::StayTest;
 use table_entries::held_bytes;
-use table_records::add_record;
+use table_promotion::add_record;
 use table_records::skip_records;
 
 // What a drain answers.
