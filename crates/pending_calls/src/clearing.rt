@@ -46,7 +46,7 @@ pub fn clear(words: &mut [u64], bytes: &[u8]) -> ClearAnswer
         ⌜ Clears (areasOf (now (words .entry)) (now (bytes .entry))) r
         (areasOf (now (words .exit)) (now (bytes .exit))) ⌝ }
 {
-    if table::well_formed(words, bytes.len()) {
+    if table_check::well_formed(words, bytes.len()) {
         clear_cache(words, bytes);
         return ClearAnswer::Done;
     }

@@ -13,14 +13,14 @@ use config::Ttl;
 use pending_flows::HeaderFigures;
 use table::LABELS;
 use table::records_at;
+use table_closing::close;
 use table_entries::StayTest;
 use table_entries::sums_by_label;
 use table_entries::sweep;
-use table_records::close;
-use table_records::place_of;
+use table_promotion::place_of;
+use table_promotion::take_off;
 use table_records::set_sum;
 use table_records::sum_of;
-use table_records::take_off;
 
 // What a removal leaves: entries, records, and the bodies of the label that was set apart.
 pub struct Removed {

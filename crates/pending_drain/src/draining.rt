@@ -35,7 +35,7 @@ use table::live_count;
 use table::records_at;
 use table_entries::StayTest;
 use table_entries::held_bytes;
-use table_records::add_record;
+use table_promotion::add_record;
 use table_records::skip_records;
 
 // What a drain answers.
@@ -197,7 +197,7 @@ pub fn drain(words: &mut [u64], bytes: &[u8], id: u16, clock: u64) -> DrainAnswe
         ⌜ Drains id clock (areasOf (now (words .entry)) (now (bytes .entry))) r
         (areasOf (now (words .exit)) (now (bytes .exit))) ⌝ }
 {
-    if table::well_formed(words, bytes.len()) {
+    if table_check::well_formed(words, bytes.len()) {
         return DrainAnswer::HandedOut(drain_cache(words, bytes, id as u64, clock));
     }
     DrainAnswer::Damaged

@@ -12,20 +12,21 @@ use borrow.Author.Tests.{lt-ltb, le-ltb}
 use Rattle.config.proofs.Lists.{All}
 use Rattle.table.specs.declared.Entry.{Entry}
 use Rattle.table.specs.declared.TemplateRecord.{TemplateRecord}
-use Rattle.table.specs.declared.EntryFound.{EntryFound}
-use Rattle.table.specs.declared.EntryFound.the-variants as Found
-use Rattle.table.specs.declared.Sought.the-variants as Sought
-use Rattle.table.specs.declared.LabelSeen.{LabelSeen}
-use Rattle.table.specs.declared.TableSeen.{TableSeen}
-use Rattle.table.specs.declared.TableSeen.the-variants as Seen
-use Rattle.table.specs.declared.watch.Watch.{Watch}
+use Rattle.table_watch.specs.declared.EntryFound.{EntryFound}
+use Rattle.table_watch.specs.declared.EntryFound.the-variants as Found
+use Rattle.table_watch.specs.declared.Sought.the-variants as Sought
+use Rattle.table_watch.specs.declared.LabelSeen.{LabelSeen}
+use Rattle.table_watch.specs.declared.TableSeen.{TableSeen}
+use Rattle.table_watch.specs.declared.TableSeen.the-variants as Seen
+use Rattle.table_watch.specs.declared.Watch.{Watch}
 use Rattle.table.specs.Layout.{limitsOf}
 use Rattle.table.specs.Table.{tableOf, tally}
 use Rattle.table.specs.WellFormed.{wellFormed}
 use Rattle.table.specs.Passes.{firstLabel}
-use Rattle.table.specs.Watch.{isWatched, nthWatched, watchOf, watchFor, seenBy, examined}
+use Rattle.table_watch.specs.Watch.{isWatched, nthWatched, watchOf, watchFor, seenBy}
+use Rattle.table_check.specs.Examined.{examined}
 use Rattle.table.proofs.Facts.{Placed, LegalWords, words-say}
-use Rattle.table.proofs.Watched.{is-seen}
+use Rattle.table_watch.proofs.Verdicts.{is-seen}
 use Rattle.cache_model.specs.Bodies.{Body}
 use Rattle.cache_model.specs.Cache.{Cache, number, spans}
 use Rattle.cache_model.specs.Queries.{handedOut, readHandedOut, placeHandedOut}

@@ -10,20 +10,21 @@ use borrow.Author.Tests.{le-leb, lt-leb}
 use Rattle.config.specs.declared.PendingFlowsConfig.{PendingFlowsConfig}
 use Rattle.config.specs.Limits.{headerWords, recordWords, entryWords, maxBodies}
 use Rattle.config.proofs.Lists.{all-map}
-use Rattle.table.specs.declared.Sought.{Sought}
-use Rattle.table.specs.declared.Sought.the-variants as Sought
-use Rattle.table.specs.declared.LabelSeen.{LabelSeen}
-use Rattle.table.specs.declared.TableSeen.{TableSeen}
-use Rattle.table.specs.declared.TableSeen.the-variants as Seen
+use Rattle.table_watch.specs.declared.Sought.{Sought}
+use Rattle.table_watch.specs.declared.Sought.the-variants as Sought
+use Rattle.table_watch.specs.declared.LabelSeen.{LabelSeen}
+use Rattle.table_watch.specs.declared.TableSeen.{TableSeen}
+use Rattle.table_watch.specs.declared.TableSeen.the-variants as Seen
 use Rattle.table.specs.Layout.{limitsOf, heldCount, entryCount, recordsAt}
 use Rattle.table.specs.Table.{tableOf, tally}
 use Rattle.table.specs.WellFormed.{wellFormed}
 use Rattle.table.specs.Reads.{labelOf, labelOrNone}
-use Rattle.table.specs.Watch.{watchFor, seenBy, examined}
+use Rattle.table_watch.specs.Watch.{watchFor, seenBy}
+use Rattle.table_check.specs.Examined.{examined}
 use Rattle.table.proofs.Facts.{LegalWords, words-say}
 use Rattle.table.proofs.Labels.{absent-tally}
-use Rattle.table.proofs.Watched.{is-damaged, is-legal, is-seen}
-use Rattle.table.proofs.LiveWatch.{watched-live}
+use Rattle.table_watch.proofs.Verdicts.{is-damaged, is-legal, is-seen}
+use Rattle.table_watch.proofs.LiveWatch.{watched-live}
 use Rattle.cache_model.specs.Bodies.{keep, bodiesOf, expired}
 use Rattle.cache_model.specs.Cache.{Cache, Answer, number, says}
 use Rattle.cache_model.specs.Queries.{wouldAccept}

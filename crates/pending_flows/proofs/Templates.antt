@@ -14,12 +14,12 @@ use Rattle.table.specs.declared.Entry.{Entry}
 use Rattle.table.specs.declared.TemplateRecord.{TemplateRecord}
 use Rattle.table.specs.declared.LabelFound.{LabelFound}
 use Rattle.table.specs.declared.LabelFound.the-variants as Label
-use Rattle.table.specs.declared.EntryFound.{EntryFound}
-use Rattle.table.specs.declared.EntryFound.the-variants as Found
+use Rattle.table_watch.specs.declared.EntryFound.{EntryFound}
+use Rattle.table_watch.specs.declared.EntryFound.the-variants as Found
 use Rattle.table.specs.Table.{tally}
 use Rattle.table.specs.Reads.{labelOf, liveCount, countSum, labelOrNone}
-use Rattle.table.specs.Watch.{nthWatched, watchOf}
-use Rattle.table.proofs.LiveWatch.{any-clock}
+use Rattle.table_watch.specs.Watch.{nthWatched, watchOf}
+use Rattle.table_watch.proofs.LiveWatch.{any-clock}
 use Rattle.cache_model.specs.Bodies.{Body, keep, allBodies, bodiesOf, expired}
 use Rattle.cache_model.specs.Queries.{noBody}
 use Rattle.pending_flows.specs.View.{bodyAt, bodiesAt, templatesAt}

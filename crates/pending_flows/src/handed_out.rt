@@ -1,9 +1,9 @@
 // Handed-out bodies that may still be put back, by their number from 0.
 ghost use Rattle.pending_flows.specs.View.{areasOf};
 ghost use Rattle.pending_flows.specs.HandedOut.{PlacesHandedOut, ReadsHandedOut};
-use table::EntryFound;
-use table::Sought;
-use table::TableSeen;
+use table_watch::EntryFound;
+use table_watch::Sought;
+use table_watch::TableSeen;
 
 // Where a body lies in the byte area.
 pub struct BodyPlace {
@@ -31,7 +31,7 @@ pub fn place_handed_out(words: &[u64], bytes: &[u8], k: usize) -> PlaceAnswer
         ⌜ PlacesHandedOut (areasOf (now (words .entry)) (now (bytes .entry))) k r
         (areasOf (now (words .exit)) (now (bytes .exit))) ⌝ }
 {
-    let TableSeen::WellFormed(seen) = table::examine(words, bytes.len(), Sought::HandedOut(k))
+    let TableSeen::WellFormed(seen) = table_check::examine(words, bytes.len(), Sought::HandedOut(k))
     else {
         return PlaceAnswer::Refused(PlaceRefusal::Damaged);
     };

@@ -17,12 +17,12 @@ use table::CHANCE_COUNT;
 use table::DROPPED;
 use table::ENTRY_COUNT;
 use table::HELD_COUNT;
-use table::Sought;
 use table::TOTAL;
-use table::TableSeen;
 use table::limits_at;
 use table::record_at;
 use table::records_at;
+use table_watch::Sought;
+use table_watch::TableSeen;
 
 // What `would_accept` answers.
 pub enum AcceptAnswer {
@@ -55,7 +55,7 @@ pub fn would_accept(words: &[u64], bytes: &[u8], id: u16, len: usize, clock: u64
         id: id as u64,
         clock,
     };
-    let TableSeen::WellFormed(seen) = table::examine(words, bytes.len(), live) else {
+    let TableSeen::WellFormed(seen) = table_check::examine(words, bytes.len(), live) else {
         return AcceptAnswer::Damaged;
     };
     if accepts(limits_at(words), len, seen.live) {
@@ -117,7 +117,7 @@ pub fn take_figures(words: &[u64], bytes: &[u8]) -> FiguresAnswer
         ⌜ Asks (λ c. tells (figures c)) (areasOf (now (words .entry)) (now (bytes .entry)))
         (figuresAnswer r) (areasOf (now (words .exit)) (now (bytes .exit))) ⌝ }
 {
-    if table::well_formed(words, bytes.len()) {
+    if table_check::well_formed(words, bytes.len()) {
         return FiguresAnswer::At(figures_of(words, bytes));
     }
     FiguresAnswer::Damaged

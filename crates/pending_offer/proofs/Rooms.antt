@@ -13,7 +13,7 @@ use Rattle.table.specs.Layout.{entriesAt}
 use Rattle.table.specs.Table.{entriesFrom}
 use Rattle.table.specs.WellFormed.{placesLegal}
 use Rattle.table.proofs.Facts.{Placed, places-say, places-hold}
-use Rattle.table.proofs.Counted.{labelsOf}
+use Rattle.table.proofs.Labels.{labelsOf}
 use Rattle.table_entries.specs.Pack.{lastEnd, packedEntries, packedEnd, packedBytes, Packs}
 use Rattle.table_entries.specs.Sweep.{putEntry}
 use Rattle.table_entries.proofs.Lengths.{placed-wider, first-end-within, last-within}

@@ -161,7 +161,7 @@ pub fn cache(words: &mut [u64], bytes: &mut [u8], id: u16, body: &[u8], clock: u
         ⌜ Offers id (now (body .entry)) clock (areasOf (now (words .entry)) (now (bytes .entry))) r
         (areasOf (now (words .exit)) (now (bytes .exit))) ⌝ }
 {
-    if table::well_formed(words, bytes.len()) {
+    if table_check::well_formed(words, bytes.len()) {
         return offer(words, bytes, id as u64, body, clock);
     }
     OfferAnswer::Refused(OfferRefusal::Damaged)

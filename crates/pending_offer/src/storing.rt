@@ -21,7 +21,7 @@ use table::records_at;
 use table_entries::last_end;
 use table_entries::pack_bodies;
 use table_entries::put_entry;
-use table_records::add_record;
+use table_promotion::add_record;
 use table_records::free_label;
 
 // Where a body of this length goes: behind the last one, or, where it would end past `most` there, behind them all

@@ -67,7 +67,7 @@ pub fn resize(words: &mut [u64], bytes: &mut [u8], config: PendingFlowsConfig) -
         ⌜ Resizes config (areasOf (now (words .entry)) (now (bytes .entry))) r
         (areasOf (now (words .exit)) (now (bytes .exit))) ⌝ }
 {
-    if !table::well_formed(words, bytes.len()) {
+    if !table_check::well_formed(words, bytes.len()) {
         return ResizeAnswer::Damaged;
     }
     match config::validate_config(config, bytes.len(), words.len()) {

@@ -127,7 +127,7 @@ pub fn restore_replay_suffix(words: &mut [u64], bytes: &[u8], id: u16, n: usize)
         ⌜ PutsBack id n (areasOf (now (words .entry)) (now (bytes .entry))) r
         (areasOf (now (words .exit)) (now (bytes .exit))) ⌝ }
 {
-    if table::well_formed(words, bytes.len()) {
+    if table_check::well_formed(words, bytes.len()) {
         if n == 0 {
             return PutBackAnswer::Done;
         }

@@ -16,8 +16,7 @@ use Rattle.table.specs.declared.TemplateRecord.{TemplateRecord}
 use Rattle.table.specs.WellFormed.{keyAt, indexRises}
 use Rattle.table.specs.Passes.{lessAt}
 use Rattle.table.proofs.Facts.{Differ}
-use Rattle.table.proofs.Draws.{occurs, occurs-here, occurs-later, sum-replicate, draws, draws-exact}
-use Rattle.table.proofs.Draws.{less-other}
+use Rattle.table.proofs.Draws.{occurs, occurs-here, occurs-later, sum-replicate, draws, draws-exact, less-other}
 
 -- what holds at each place holds of each
 all-by-place : {A : Type 0} (P : A → Type 0) (d : A) (xs : List A) → ((i : ℕ) → i < length xs → P (getD xs i d)) →

@@ -2,7 +2,7 @@
 use mathlib.Core.Path.{_≡_, refl, sym, ap, _∙_}
 use mathlib.Core.Logic.{_≢_}
 use mathlib.Core.Bool.{Bool, true, false, _||_, cond, false≢true}
-use mathlib.Core.List.{List, [], _∷_, _++_, append-nil}
+use mathlib.Core.List.{List, [], _∷_, _++_, append-nil, map}
 use Prim.Native.Nat.{ℕ, suc, _+_, _≤_, _<_}
 use native.Mathlib.Omega.{arith}
 use native.Mathlib.Decide.{ℕ-discrete}
@@ -16,7 +16,7 @@ use Rattle.table.specs.declared.TemplateRecord.{TemplateRecord}
 use Rattle.table.specs.Table.{hasLabel, tally, sumLens}
 use Rattle.table.specs.Passes.{firstLabel, heldLen}
 use Rattle.table.proofs.Facts.{Differ, differ-across}
-use Rattle.table.proofs.EntriesPass.{handed-adds, held-adds}
+use Rattle.table.proofs.Draws.{occurs}
 
 -- no record has the label k
 abbrev pub Absent : ℕ → List TemplateRecord → Type 0
@@ -108,6 +108,32 @@ absent-tally k rs [] a h = refl
 absent-tally k rs (e ∷ es) a h =
     tally-later k e es (λ d. false≢true (sym (absent-holds k rs a) ∙ ap (λ (j : ℕ). hasLabel j rs) d ∙ h .0))
     ∙ absent-tally k rs es a (h .1)
+
+-- the labels of entries, each as often as it is counted
+abbrev pub labelsOf : List Entry → List ℕ
+labelsOf es = map (λ e. e .label) es
+
+pub occurs-tally : (i : ℕ) (es : List Entry) → occurs i (labelsOf es) ≡ tally i es
+unfolding occurs
+occurs-tally i [] = refl
+occurs-tally i (e ∷ es) = ap (λ (n : ℕ). cond (eqb i (e .label)) (suc n) n) (occurs-tally i es)
+
+-- what an entry adds to the total
+module _ (out : ℕ) (e : Entry) where
+  pub handed-adds : e .label ≡ out → 0 ≡ heldLen out e
+  unfolding heldLen
+  handed-adds h = rw (eq-eqb _ _ h)
+
+  pub held-adds : (e .label ≡ out → ⊥) → e .len ≡ heldLen out e
+  unfolding heldLen
+  held-adds h = rw (ne-eqb _ _ h)
+
+  pub adds-within : heldLen out e ≤ e .len
+  adds-within = by-label (ℕ-discrete (e .label) out)
+    where
+      by-label : Dec (e .label ≡ out) → heldLen out e ≤ e .len
+      by-label (yes h) = omega (arith, handed-adds h)
+      by-label (no h) = omega (arith, held-adds h)
 
 -- the lengths of all entries but those of the label out
 unfoldable pub sumBut : ℕ → List Entry → ℕ

@@ -1,16 +1,7 @@
 pub mod Words
 pub mod Facts
-pub mod Header
-pub mod RecordsPass
-pub mod IndexPass
-pub mod EntriesPass
 pub mod Draws
 pub mod Index
 pub mod Labels
-pub mod Counted
-pub mod Passes
-pub mod WordsPasses
 pub mod Lookups
-pub mod Watched
-pub mod LiveWatch
 pub mod FoundLabels

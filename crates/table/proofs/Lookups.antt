@@ -14,7 +14,6 @@ use Rattle.table.specs.declared.Entry.{Entry}
 use Rattle.table.specs.declared.TemplateRecord.{TemplateRecord}
 use Rattle.table.specs.declared.RecordFound.{RecordFound}
 use Rattle.table.specs.declared.RecordFound.the-variants as Record
-use Rattle.table.specs.declared.LabelFound.{LabelFound}
 use Rattle.table.specs.declared.LabelFound.the-variants as Label
 use Rattle.table.specs.Layout.{entriesAt}
 use Rattle.table.specs.Table.{entryAt, recordAt, entriesFrom, recordsFrom}

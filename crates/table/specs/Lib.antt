@@ -3,4 +3,3 @@ pub mod Table
 pub mod WellFormed
 pub mod Passes
 pub mod Reads
-pub mod Watch

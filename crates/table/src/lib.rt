@@ -1,17 +1,15 @@
 // The cache's table in the lent words: a header, entries for bodies, records for templates (docs/LAYOUT.md).
-mod check;
 mod layout;
 mod reads;
-mod watch;
 
-pub use check::examine;
-pub use check::well_formed;
 pub use layout::CACHED;
 pub use layout::CHANCE_COUNT;
 pub use layout::DROPPED;
 pub use layout::ENTRY_COUNT;
 pub use layout::HELD_COUNT;
+pub use layout::INDEX;
 pub use layout::TOTAL;
+pub use layout::TTL_SET;
 pub use layout::entry_at;
 pub use layout::limits_at;
 pub use layout::record_at;
@@ -47,34 +45,6 @@ pub enum RecordFound {
 pub enum LabelFound {
     At(u64),
     Nothing,
-}
-
-// An entry that is looked for.
-pub enum EntryFound {
-    At(Entry),
-    Nothing,
-}
-
-// What is looked for while a table is tested.
-pub enum Sought {
-    Nothing,
-    // the bodies of a held id that are not expired at a clock reading, to be counted
-    Live { id: u64, clock: u64 },
-    // the handed-out body with this number, from 0
-    HandedOut(usize),
-}
-
-// What was seen of the entries that are looked for: how many there are, and the one with the number, if any.
-pub struct LabelSeen {
-    pub live: usize,
-    pub found: EntryFound,
-}
-
-// A table that was tested.
-pub enum TableSeen {
-    WellFormed(LabelSeen),
-    // number 28
-    Damaged,
 }
 
 // Every label is below this.

@@ -9,8 +9,7 @@ use Rattle.config.specs.Limits.{recordWords}
 use Rattle.table.specs.declared.TemplateRecord.{TemplateRecord}
 use Rattle.table.specs.Table.{recordAt, recordsFrom}
 use Rattle.table.proofs.Words.{records-first, records-none}
-use Rattle.table_records.specs.Choose.{setEach, evictionsOf, liveRecords, firstLive}
-use Rattle.table_records.specs.Choose.{leastFree}
+use Rattle.table_records.specs.Choose.{setEach, evictionsOf, liveRecords, firstLive, leastFree}
 
 -- At each record's label is set what f says of it. `left` records are left, from word p on, within the words.
 pub record EachSet (f : TemplateRecord → ℕ) (w sums₀ sums : List ℕ) (from records p left : ℕ) : Type 0 where

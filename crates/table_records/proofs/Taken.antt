@@ -8,7 +8,7 @@ use Prim.Native.Nat.{ℕ, suc, _+_, _*_, _-_, _≤_, _<_}
 use native.Mathlib.Omega.{arith}
 use lib.Dec.{eqb}
 use lib.ListN.{length, getD}
-use borrow.Author.Tests.{eqb-true, ne-eqb, lt-ltb, le-ltb}
+use borrow.Author.Tests.{eqb-true, ne-eqb, lt-ltb}
 use Rattle.config.specs.Limits.{recordWords}
 use Rattle.config.proofs.Lists.{All, all-map, all-both}
 use Rattle.table.specs.declared.TemplateRecord.{TemplateRecord}

@@ -17,7 +17,7 @@ use Rattle.table.specs.Table.{hasLabel, tally}
 use Rattle.table.specs.WellFormed.{indexRises}
 use Rattle.table.proofs.Facts.{Differ}
 use Rattle.table.proofs.Labels.{absent-says, tally-here, tally-later, tally-append}
-use Rattle.table.proofs.Counted.{labelsOf, occurs-tally}
+use Rattle.table.proofs.Labels.{labelsOf, occurs-tally}
 use Rattle.table.proofs.Draws.{occurs}
 use Rattle.table_records.specs.Add.{inserted}
 use Rattle.table_view.proofs.Tied.{Tied, TiedApart}

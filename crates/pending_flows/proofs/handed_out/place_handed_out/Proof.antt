@@ -4,7 +4,7 @@ use Rattle.pending_flows.proofs.handed_out.place_handed_out.Statement.{
 use Rattle.pending_flows.proofs.handed_out.place_handed_out.Tie as tie
 use Rattle.pending_flows.proofs.handed_out.place_handed_out.Reads as reads
 use Rattle.pending_flows.proofs.handed_out.place_handed_out.Lts as lts
-use Rattle.table.proofs.examine.Reads as examine-reads
+use Rattle.table_check.proofs.examine.Reads as examine-reads
 
 examine-requires : tie.Need-examine-requires
 examine-requires c κs = search needs

@@ -5,7 +5,7 @@ use Rattle.pending_flows.proofs.queries.would_accept.Tie as tie
 use Rattle.pending_flows.proofs.queries.would_accept.Reads as reads
 use Rattle.pending_flows.proofs.queries.would_accept.Lts as lts
 use Rattle.pending_flows.proofs.queries.accepts.Reads as accepts-reads
-use Rattle.table.proofs.examine.Reads as examine-reads
+use Rattle.table_check.proofs.examine.Reads as examine-reads
 use Rattle.table.proofs.limits_at.Reads as limits-at-reads
 
 examine-requires : tie.Need-examine-requires

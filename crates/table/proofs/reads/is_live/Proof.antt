@@ -2,9 +2,6 @@ use Rattle.table.proofs.Lookups.{other-label, live-by-age}
 use borrow.Author.Needs.{needs}
 use Rattle.table.proofs.reads.is_live.Statement.{statement}
 use Rattle.table.proofs.reads.is_live.Tie as tie
-use Rattle.table.proofs.reads.is_live.Reads as reads
-use Rattle.table.proofs.reads.is_live.Lts as lts
-use Rattle.config.proofs.is_expired.Reads as is-expired-reads
 
 returns : tie.Need-returns
 returns c = search (other-label, needs)

@@ -3,10 +3,6 @@ use borrow.Author.Needs.{needs}
 use Rattle.table.proofs.Lookups.{LiveCounted, none-counted, all-counted, live-counted, not-counted}
 use Rattle.table.proofs.reads.live_count.Statement.{statement}
 use Rattle.table.proofs.reads.live_count.Tie as tie
-use Rattle.table.proofs.reads.live_count.Reads as reads
-use Rattle.table.proofs.reads.live_count.Lts as lts
-use Rattle.table.proofs.layout.entry_at.Reads as entry-at-reads
-use Rattle.table.proofs.reads.is_live.Reads as is-live-reads
 
 abbrev Inv-loop : tie.InvT-loop
 Inv-loop words entries label ttl clock live₀ left₀ p₀ live left p =

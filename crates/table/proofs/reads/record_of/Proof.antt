@@ -2,9 +2,6 @@ use borrow.Author.Needs.{needs}
 use Rattle.table.proofs.Lookups.{KeySought, all-records, record-absent, record-found, record-further}
 use Rattle.table.proofs.reads.record_of.Statement.{statement}
 use Rattle.table.proofs.reads.record_of.Tie as tie
-use Rattle.table.proofs.reads.record_of.Reads as reads
-use Rattle.table.proofs.reads.record_of.Lts as lts
-use Rattle.table.proofs.layout.record_at.Reads as record-at-reads
 
 abbrev Inv-loop : tie.InvT-loop
 Inv-loop words from records key left₀ p₀ left p = KeySought words key from records p left

@@ -1,0 +1,4 @@
+pub mod Header
+pub mod Counted
+pub mod Passes
+pub mod WordsPasses

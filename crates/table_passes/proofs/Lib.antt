@@ -1,0 +1,3 @@
+pub mod RecordsPass
+pub mod IndexPass
+pub mod EntriesPass
