@@ -7,7 +7,6 @@ ghost use Rattle.config.specs.Limits.{recordWords, entryWords};
 ghost use Rattle.table.specs.Layout.{limitsOf, heldCount, entriesAt};
 ghost use Rattle.table.specs.Table.{tableOf, entriesFrom, recordsFrom};
 ghost use Rattle.table.specs.Reads.{labelIn};
-ghost use Rattle.table.specs.Passes.{firstLabel};
 ghost use Rattle.table.specs.WellFormed.{wellFormed};
 ghost use Rattle.cache_model.specs.Removal.{evictions};
 ghost use Rattle.pending_flows.specs.Header.{figuresAt};
@@ -22,9 +21,9 @@ use pending_flows::HeaderFigures;
 use table::LABELS;
 use table::RecordFound;
 use table::count_in;
+use table::first_label;
 use table::label_for;
 use table::live_count;
-use table::record_at;
 use table::record_of;
 use table::records_at;
 use table_entries::StayTest;
@@ -152,17 +151,6 @@ fn first_evicted(
         return LABELS as u64;
     }
     first_live(words, from, records, live)
-}
-
-// The first record's label; where there is none, what is no label.
-fn first_label(words: &[u64], from: usize, records: usize) -> u64
-    requires { ⌜ from + recordWords * records ≤ length (now words) ⌝ }
-    ensures { λ r. ⌜ r ≡ firstLabel (recordsFrom (now (words .entry)) from records) ⌝ }
-{
-    if records == 0 {
-        return LABELS as u64;
-    }
-    record_at(words, from).label
 }
 
 // The label of the least recent template, where the templates are as many as there may be; else what is no label.

@@ -116,11 +116,10 @@ records-behind w p (suc n) k =
     ∙ ap (λ (q : ℕ). recordsFrom w q k) e
 
 -- the label of the first record, where there is one
-module _ (w : List ℕ) (p chance : ℕ) where
-  pub none-handed : chance ≡ 0 → 1024 ≡ firstLabel (recordsFrom w p chance)
+module _ (w : List ℕ) (p n : ℕ) where
+  pub none-first : n ≡ 0 → 1024 ≡ firstLabel (recordsFrom w p n)
   unfolding recordsFrom
-  none-handed e = rw e
+  none-first e = rw e
 
-  pub one-handed : (r : TemplateRecord) → (chance ≡ 0 → ⊥) → r ≡ recordAt w p →
-      r .label ≡ firstLabel (recordsFrom w p chance)
-  one-handed r some is = rw (records-first w p chance (omega arith) r is)
+  pub some-first : (r : TemplateRecord) → (n ≡ 0 → ⊥) → r ≡ recordAt w p → r .label ≡ firstLabel (recordsFrom w p n)
+  some-first r some is = rw (records-first w p n (omega arith) r is)

@@ -16,6 +16,7 @@ pub use layout::record_at;
 pub use layout::records_at;
 pub use reads::count_in;
 pub use reads::count_of;
+pub use reads::first_label;
 pub use reads::label_for;
 pub use reads::live_count;
 pub use reads::record_of;

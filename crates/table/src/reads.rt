@@ -5,6 +5,7 @@ ghost use lib.ListN.{length};
 ghost use Rattle.config.specs.Limits.{headerWords, recordWords, entryWords};
 ghost use Rattle.table.specs.Layout.{entriesAt};
 ghost use Rattle.table.specs.Table.{entriesFrom, recordsFrom};
+ghost use Rattle.table.specs.Passes.{firstLabel};
 ghost use Rattle.table.specs.Reads.{recordOf, countIn, labelOf, labelOrNone, countOf, isLive, liveCount};
 use super::Entry;
 use super::LABELS;
@@ -75,6 +76,17 @@ pub fn label_for(words: &[u64], from: usize, records: usize, key: u64) -> u64
         return LABELS as u64;
     };
     label
+}
+
+// The first record's label; where there is none, what is no label.
+pub fn first_label(words: &[u64], from: usize, records: usize) -> u64
+    requires { ⌜ from + recordWords * records ≤ length (now words) ⌝ }
+    ensures { λ r. ⌜ r ≡ firstLabel (recordsFrom (now (words .entry)) from records) ⌝ }
+{
+    if records == 0 {
+        return LABELS as u64;
+    }
+    record_at(words, from).label
 }
 
 // Whether an entry has this label and is not expired.

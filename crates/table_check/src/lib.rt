@@ -4,11 +4,10 @@ ghost use mathlib.Core.Path.{_≡_};
 ghost use mathlib.Core.Bool.{_&&_};
 ghost use Prim.Native.Nat.{_+_, _*_, _<_, _≤_};
 ghost use lib.ListN.{length};
-ghost use Rattle.config.specs.Limits.{headerWords, recordWords, maxBodies};
+ghost use Rattle.config.specs.Limits.{headerWords, maxBodies};
 ghost use Rattle.table.specs.Layout.{limitsOf};
-ghost use Rattle.table.specs.Table.{recordsFrom, index, tableOf};
+ghost use Rattle.table.specs.Table.{index, tableOf};
 ghost use Rattle.table.specs.WellFormed.{flagsLegal, countsLegal, tableLegal, wellFormed};
-ghost use Rattle.table.specs.Passes.{firstLabel};
 ghost use Rattle.table_watch.specs.Watch.{watchIn, seenBy, judged};
 ghost use Rattle.table_check.specs.Header.{HeaderLegal};
 ghost use Rattle.table_check.specs.Examined.{examined};
@@ -23,8 +22,8 @@ use table::HELD_COUNT;
 use table::LABELS;
 use table::TOTAL;
 use table::TTL_SET;
+use table::first_label;
 use table::limits_at;
-use table::record_at;
 use table::records_at;
 use table_passes::entries_pass;
 use table_passes::index_rises;
@@ -32,17 +31,6 @@ use table_passes::records_pass;
 use table_watch::Sought;
 use table_watch::TableSeen;
 use table_watch::watch_for;
-
-// The label of the record at p, where there is a chance of a put-back; else what is no label.
-fn handed_label(words: &[u64], p: usize, chance: usize) -> u64
-    requires { ⌜ p + recordWords * chance ≤ length (now words) ⌝ }
-    ensures { λ r. ⌜ r ≡ firstLabel (recordsFrom (now (words .entry)) p chance) ⌝ }
-{
-    if chance == 0 {
-        return LABELS as u64;
-    }
-    record_at(words, p).label
-}
 
 // Tests the records, the index and the entries by the three passes, and looks for what is sought.
 fn examine_table(words: &[u64], limits: PendingFlowsConfig, sought: Sought) -> TableSeen
@@ -66,7 +54,7 @@ fn examine_table(words: &[u64], limits: PendingFlowsConfig, sought: Sought) -> T
     }
     let max_size = limits.max_entry_size_bytes as u64;
     let max_total = limits.max_total_bytes as u64;
-    let out = handed_label(words, from + RECORD_WORDS * held, chance);
+    let out = first_label(words, from + RECORD_WORDS * held, chance);
     let ttl = limits.ttl;
     let watch = watch_for(words, from, held, ttl, out, sought);
     entries_pass(

@@ -33,14 +33,14 @@ index-rises-requires c κs =
 returns-2 : tie.Need-returns-2
 returns-2 c = search (damaged, index-wrong, not-true, not-false, needs)
 
-mul-handed-label : tie.Need-mul-handed-label
-mul-handed-label c = search needs
+mul-first-label : tie.Need-mul-first-label
+mul-first-label c = search needs
 
-add-handed-label : tie.Need-add-handed-label
-add-handed-label c = search needs
+add-first-label : tie.Need-add-first-label
+add-first-label c = search needs
 
-handed-label-requires : tie.Need-handed-label-requires
-handed-label-requires c κs = search needs
+first-label-requires : tie.Need-first-label-requires
+first-label-requires c κs = search needs
 
 watch-for-requires : tie.Need-watch-for-requires
 watch-for-requires c κs = search needs
@@ -67,9 +67,9 @@ examine-table-spec =
     returns
     index-rises-requires
     returns-2
-    mul-handed-label
-    add-handed-label
-    handed-label-requires
+    mul-first-label
+    add-first-label
+    first-label-requires
     watch-for-requires
     shared-slice-read-entries-pass
     entries-pass-requires
