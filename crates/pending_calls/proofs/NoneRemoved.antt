@@ -4,25 +4,28 @@ use mathlib.Core.Logic.{_≢_}
 use mathlib.Core.Bool.{Bool, true, false, cond}
 use mathlib.Core.List.{List}
 use Prim.Native.Nat.{ℕ, _+_, _*_, _-_, _^_, _≤_, _<_}
+use native.Mathlib.Nat.{mod-eq-of-lt}
 use native.Mathlib.Omega.{arith}
 use lib.Dec.{eqb, ltb}
 use lib.ListN.{length, getD, replicate, length-replicate, List·getD-eq-default}
-use lib.Seq.{getD-set-other}
+use lib.Seq.{take-all, getD-set-other}
 use borrow.Author.Tests.{eqb-true, eqb-false, ltb-true, ltb-false}
 use Rattle.config.specs.declared.PendingFlowsConfig.{PendingFlowsConfig}
 use Rattle.config.specs.Limits.{recordWords, entryWords}
 use Rattle.config.proofs.Lists.{All, all-both}
 use Rattle.table.specs.declared.Entry.{Entry}
 use Rattle.table.specs.declared.TemplateRecord.{TemplateRecord}
-use Rattle.table.specs.Layout.{limitsOf, heldCount, entryCount, chanceCount, entriesAt, recordsAt}
-use Rattle.table.specs.Table.{recordAt, entriesFrom, recordsFrom, tally}
+use Rattle.table.specs.Layout.{limitsOf, totalWord, heldCount, entryCount, chanceCount, entriesAt, recordsAt}
+use Rattle.table.specs.Table.{tableOf, recordAt, entriesFrom, recordsFrom, records, tally, hasLabel}
 use Rattle.table.specs.WellFormed.{wellFormed}
 use Rattle.table.proofs.Words.{length-entries, length-records}
 use Rattle.table.proofs.Facts.{LegalWords, words-say}
 use Rattle.table.proofs.Labels.{tally-most, absent-tally}
 use Rattle.table_entries.specs.declared.StayTest.{StayTest}
+use Rattle.table_entries.specs.Sums.{lensWord}
 use Rattle.table_entries.specs.Sweep.{swept}
 use Rattle.table_entries.proofs.LabelSums.{length-summed, zeros}
+use Rattle.table_entries.proofs.Lengths.{lens-within}
 use Rattle.table_records.specs.Close.{Closes}
 use Rattle.table_records.specs.Take.{placeOf, cappedCount, TakesOff}
 use Rattle.table_records.proofs.Places.{place-has, place-absent}
@@ -31,6 +34,7 @@ use Rattle.pending_flows.specs.declared.header.HeaderFigures.{HeaderFigures}
 use Rattle.pending_flows.specs.Header.{figuresAt}
 use Rattle.table_view.proofs.Summed.{lenMost}
 use Rattle.table_view.proofs.Removed.{label-counts, none-set, placed-short}
+use Rattle.table_view.proofs.Totals.{lens-owned}
 use Rattle.table_view.proofs.AllStay.{everything-swept}
 use Rattle.pending_calls.specs.declared.removal.Removed.{Removed}
 use Rattle.pending_calls.specs.Removal.{everything, counted, countedBut, Removes}
@@ -46,6 +50,7 @@ removes-alike {apart = apart} same done = record {
   few-entries = done .few-entries;
   few-records = done .few-records;
   entries = done .entries ∙ same;
+  bytes = done .bytes ∙ ap lensWord same;
   bodies-apart = done .bodies-apart ∙ ap (λ (es : List Entry). getD (counted es) apart 0) same;
   records = done .records ∙ rw same;
   index = rw same at (done .index);
@@ -67,6 +72,19 @@ module _ (w : List ℕ) (n : ℕ) (ok : wellFormed w n ≡ true) where
 
   pub all-swept-stay : swept everything zeros es ≡ es
   all-swept-stay = everything-swept (rows-tied w n legal) entries-short
+
+  -- where nothing is handed out, the total is of all entries
+  total-all : chanceCount w ≡ 0 → totalWord w ≡ lensWord es
+  total-all none =
+      let held = tableOf w .held in
+      let most = limitsOf w .«max_total_bytes» in
+      let all : held ≡ records w =
+      take-all (heldCount w) (records w)
+      (omega (arith, length-records w (recordsAt (limitsOf w)) (heldCount w + chanceCount w))) in
+      let known : All (λ e. hasLabel (e .label) held ≡ true) es = rw all (rows-tied w n legal .labels-known) in
+      let lens = lens-owned held es known in
+      let within = lens-within 0 most es (omega arith) (rows-placed w n legal) in
+      legal .table-legal .total-right ∙ sym lens ∙ sym (mod-eq-of-lt (omega (arith, total-short w n legal)))
 
   module _ (f : HeaderFigures) (is : f ≡ figuresAt w) where
     pub records-few : f .templates + f .chance ≤ 1024
@@ -94,7 +112,7 @@ module _ (w : List ℕ) (n : ℕ) (ok : wellFormed w n ≡ true) where
       rows : TiedRows p k (entryCount w) w
       rows = rw (start, is) (rows-tied w n legal)
 
-      module _ (apart : ℕ) where
+      module _ (none : f .chance ≡ 0) (apart : ℕ) where
         abbrev kept : List ℕ
         kept = countedBut apart es
 
@@ -129,21 +147,29 @@ module _ (w : List ℕ) (n : ℕ) (ok : wellFormed w n ≡ true) where
         done-by : (w′ : List ℕ) (remain bodies : ℕ) → Closes p k kept w w′ remain → length w′ ≡ length w →
             bodies ≡ getD (counted es) apart 0 →
             Removes everything (recordsAt (limitsOf w)) (heldCount w + chanceCount w) (entryCount w) apart zeros w w′
-            (record { entries = f .entries; records = remain; apart = bodies })
+            (record { entries = f .entries; bytes = f .total; records = remain; apart = bodies })
         done-by w′ remain bodies closes long counts =
             let many : f .entries ≡ entryCount w = ap (λ (g : HeaderFigures). g .entries) is in
             let all : k ≡ heldCount w + chanceCount w = ap (λ (g : HeaderFigures). g .templates + g .chance) is in
+            let total : f .total ≡ lensWord es =
+            ap (λ (g : HeaderFigures). g .total) is ∙ total-all (sym (ap (λ (g : HeaderFigures). g .chance) is) ∙ none) in
             rw many
             (removal-done everything (recordsAt (limitsOf w)) (heldCount w + chanceCount w) (entryCount w) apart zeros w
-            w w′ (counted es) kept (record { entries = entryCount w; records = remain; apart = bodies })
+            w w′ (counted es) kept (record { entries = entryCount w; bytes = f .total; records = remain; apart = bodies })
             (entries-below-records w n legal, records-within w n legal)
-            (record { few = omega arith; entries = sym all-swept-stay; head = refl; tail = refl })
+            (record {
+              few = omega arith;
+              entries = sym all-swept-stay;
+              bytes = total ∙ ap lensWord (sym all-swept-stay);
+              head = refl;
+              tail = refl;
+            })
             refl counts refl (rw (start, all) at closes) long)
 
         -- no record has the label
         pub none-apart : (at : ℕ) → at ≡ placeOf apart rs → k ≤ at →
             Removes everything (recordsAt (limitsOf w)) (heldCount w + chanceCount w) (entryCount w) apart zeros w w
-            (record { entries = f .entries; records = k; apart = 0 })
+            (record { entries = f .entries; bytes = f .total; records = k; apart = 0 })
         none-apart at placed past =
             let absent = place-absent apart rs (omega (arith, length-records w p k)) in
             done-by w k 0
@@ -166,7 +192,7 @@ module _ (w : List ℕ) (n : ℕ) (ok : wellFormed w n ≡ true) where
         pub one-apart : (at bodies : ℕ) (w′ : List ℕ) → at ≡ placeOf apart rs → at < k →
             TakesOff p k at w w′ bodies → length w′ ≡ length w →
             Removes everything (recordsAt (limitsOf w)) (heldCount w + chanceCount w) (entryCount w) apart zeros w w′
-            (record { entries = f .entries; records = k - 1; apart = bodies })
+            (record { entries = f .entries; bytes = f .total; records = k - 1; apart = bodies })
         one-apart at bodies w′ placed held taken long =
             done-by w′ (k - 1) bodies (taken-closes kept apart p k w (rows .labels-differ) left-but at bodies w′ placed
             taken) long count

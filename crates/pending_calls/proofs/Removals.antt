@@ -21,7 +21,7 @@ use Rattle.pending_calls.specs.Removal.{everything, counted, countedBut,
 
 module _ (q : StayTest) (p k m apart : ℕ) (skip w w₁ w′ kept₁ kept′ : List ℕ) (r : Removed) where
   pub removal-done : (entriesAt + entryWords * m ≤ p) × (p + recordWords * k ≤ length w) →
-      Sweeps q m skip w w₁ (r .entries) → kept₁ ≡ counted (entriesFrom w₁ entriesAt (r .entries)) →
+      Sweeps q m skip w w₁ (record { entries = r .entries; bytes = r .bytes }) → kept₁ ≡ counted (entriesFrom w₁ entriesAt (r .entries)) →
       r .apart ≡ getD kept₁ apart 0 → kept′ ≡ set kept₁ apart 0 → Closes p k kept′ w₁ w′ (r .records) →
       length w′ ≡ length w → Removes q p k m apart skip w w′ r
   removal-done room s c b d x long =
@@ -37,6 +37,7 @@ module _ (q : StayTest) (p k m apart : ℕ) (skip w w₁ w′ kept₁ kept′ : 
         few-records = x .few;
         entries = entries-below w′ w₁ entriesAt (r .entries) p (omega (arith, s .few, room .0)) (x .head)
             ∙ s .entries;
+        bytes = s .bytes;
         bodies-apart = b ∙ ap (λ (l : List ℕ). getD l apart 0) counts;
         records = x .records ∙ rw (rs, kept);
         index = rw (← rs, ← is, ← kept) (x .index);

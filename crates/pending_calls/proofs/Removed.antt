@@ -3,6 +3,7 @@
 use mathlib.Core.Path.{_≡_, sym, ap, subst, _∙_}
 use mathlib.Core.List.{List}
 use Prim.Native.Nat.{ℕ, _+_, _*_, _≤_, _<_}
+use native.Mathlib.Nat.{mod-eq-of-lt}
 use native.Mathlib.Omega.{arith}
 use lib.ListN.{length, take-append-drop}
 use Rattle.table.specs.declared.Entry.{Entry}
@@ -13,8 +14,9 @@ use Rattle.table.specs.Table.{entriesFrom, recordsFrom, indexFrom, records, tal
 use Rattle.table.proofs.Words.{length-entries, length-records}
 use Rattle.table.proofs.Facts.{Placed, LegalWords}
 use Rattle.table_entries.specs.declared.StayTest.{StayTest}
-use Rattle.table_entries.specs.Sums.{sumMost}
+use Rattle.table_entries.specs.Sums.{sumMost, lensSum, lensWord}
 use Rattle.table_entries.specs.Sweep.{swept}
+use Rattle.table_entries.proofs.Lengths.{lens-within}
 use Rattle.table_entries.proofs.Swept.{length-swept, all-swept, placed-swept}
 use Rattle.table_records.specs.Close.{closed, positions, remapped}
 use Rattle.table_records.proofs.ClosedIndex.{closed-index-long, index-after-closing}
@@ -45,6 +47,13 @@ module _ {q : StayTest} {p k m a : ℕ} {skip w w′ : List ℕ} {r : Removed} (
 
   pub placed-left : Placed 0 most (entriesFrom w′ entriesAt (r .entries))
   placed-left = rw (done .entries) (placed-swept q skip 0 most es placed)
+
+  -- the lengths together, which are too short to wrap
+  pub bytes-left : r .bytes ≡ lensSum (entriesFrom w′ entriesAt (r .entries))
+  bytes-left =
+      let left = entriesFrom w′ entriesAt (r .entries) in
+      done .bytes ∙ ap lensWord (sym (done .entries))
+      ∙ mod-eq-of-lt (omega (arith, lens-within 0 most left (omega arith) placed-left))
 
   -- the bodies set apart
   pub apart-left : a < 1024 → r .apart ≡ tally a (entriesFrom w′ entriesAt (r .entries))

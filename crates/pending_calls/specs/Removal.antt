@@ -10,7 +10,7 @@ use Rattle.table.specs.declared.Entry.{Entry}
 use Rattle.table.specs.Layout.{entriesAt}
 use Rattle.table.specs.Table.{entriesFrom, recordsFrom, indexFrom}
 use Rattle.table_entries.specs.declared.StayTest.{StayTest}
-use Rattle.table_entries.specs.Sums.{summed}
+use Rattle.table_entries.specs.Sums.{lensWord, summed}
 use Rattle.table_entries.specs.Sweep.{swept}
 use Rattle.table_records.specs.Close.{closed, positions, remapped}
 use Rattle.pending_calls.specs.declared.removal.Removed.{Removed}
@@ -31,6 +31,7 @@ pub record Removes (q : StayTest) (p k m apart : ℕ) (skip w w′ : List ℕ) (
   pub few-entries : r .entries ≤ m
   pub few-records : r .records ≤ k
   pub entries : entriesFrom w′ entriesAt (r .entries) ≡ swept q skip (entriesFrom w entriesAt m)
+  pub bytes : r .bytes ≡ lensWord (swept q skip (entriesFrom w entriesAt m))
   pub bodies-apart : r .apart ≡ getD (counted (swept q skip (entriesFrom w entriesAt m))) apart 0
   pub records : recordsFrom w′ p (r .records)
       ≡ closed (countedBut apart (swept q skip (entriesFrom w entriesAt m))) (recordsFrom w p k)

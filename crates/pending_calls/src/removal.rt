@@ -22,9 +22,10 @@ use table_promotion::take_off;
 use table_records::set_sum;
 use table_records::sum_of;
 
-// What a removal leaves: entries, records, and the bodies of the label that was set apart.
+// What a removal leaves: entries, their lengths together, records, and the bodies of the label that was set apart.
 pub struct Removed {
     pub entries: usize,
+    pub bytes: u64,
     pub records: usize,
     pub apart: u32,
 }
@@ -59,18 +60,19 @@ pub fn remove(
 {
     let left = sweep(words, entries, test, skip);
     let mut kept = [0u32; LABELS];
-    sums_by_label(words, left, stay_all(), false, &mut kept);
+    sums_by_label(words, left.entries, stay_all(), false, &mut kept);
     let bodies = sum_of(&kept, apart);
     set_sum(&mut kept, apart, 0);
     let remain = close(words, from, records, &kept);
     Removed {
-        entries: left,
+        entries: left.entries,
+        bytes: left.bytes,
         records: remain,
         apart: bodies,
     }
 }
 
-// The removal where every body stays: no entry is looked at, and of the records only the one of the label `apart` goes.
+// The removal where every body stays and none is handed out: no entry is looked at, and of the records only the one of the label `apart` goes.
 pub fn remove_none(
     words: &mut [u64],
     bytes: &[u8],
@@ -79,7 +81,7 @@ pub fn remove_none(
     apart: u64,
 ) -> Removed
     requires { ⌜ (wellFormed (now words) (length (now bytes)) ≡ true) × (limits ≡ limitsOf (now words)) ⌝ }
-    requires { ⌜ figures ≡ figuresAt (now words) ⌝ }
+    requires { ⌜ (figures ≡ figuresAt (now words)) × (figures .chance ≡ 0) ⌝ }
     ensures { λ r.
         ⌜ Removes everything (recordsAt (limitsOf (now (words .entry)))) (heldCount (now (words .entry)) + chanceCount
         (now (words .entry))) (entryCount (now (words .entry))) apart (replicate 1024 0) (now (words .entry))
@@ -92,6 +94,7 @@ pub fn remove_none(
     if records <= at {
         return Removed {
             entries,
+            bytes: figures.total,
             records,
             apart: 0,
         };
@@ -100,6 +103,7 @@ pub fn remove_none(
     let remain = records - 1;
     Removed {
         entries,
+        bytes: figures.total,
         records: remain,
         apart: bodies,
     }

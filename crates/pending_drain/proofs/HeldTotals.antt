@@ -15,8 +15,8 @@ use Rattle.table.specs.Table.{hasLabel, sumLens}
 use Rattle.table.specs.Passes.{heldLen}
 use Rattle.table.proofs.Facts.{Placed}
 use Rattle.table.proofs.Labels.{absent-says}
-use Rattle.table_entries.specs.Sums.{heldSum}
-use Rattle.table_entries.proofs.Lengths.{lensSum, lens-within}
+use Rattle.table_entries.specs.Sums.{lensSum, heldSum}
+use Rattle.table_entries.proofs.Lengths.{lens-within}
 use Rattle.table_view.proofs.Tied.{TiedApart}
 use Rattle.table_view.proofs.Totals.{held-sum-lens}
 

@@ -13,7 +13,7 @@ use Rattle.table.specs.Table.{tableOf, entriesFrom, records, tally}
 use Rattle.table.proofs.Words.{length-entries, length-records}
 use Rattle.table.proofs.Facts.{Placed, LegalWords}
 use Rattle.table_entries.specs.declared.StayTest.{StayTest}
-use Rattle.table_entries.specs.Sums.{heldSum}
+use Rattle.table_entries.specs.Sums.{lensSum, heldSum}
 use Rattle.table_records.specs.Choose.{skipAll}
 use Rattle.cache_model.proofs.Limits as Limits
 use Rattle.cache_model.proofs.Calls.{limitsAlone, held-within}
@@ -25,8 +25,7 @@ use Rattle.table_view.proofs.Summed.{lenMost}
 use Rattle.pending_calls.specs.declared.removal.Removed.{Removed}
 use Rattle.pending_calls.specs.Removal.{Removes}
 use Rattle.pending_calls.proofs.Removed.{TiedRowsApart, rows-left, placed-left, apart-left, rows-tied, rows-placed}
-use Rattle.pending_calls.proofs.Removed.{few-templates, few-bodies, total-short, entries-below-records}
-use Rattle.pending_drain.specs.Handing.{zeros}
+use Rattle.pending_calls.proofs.Removed.{bytes-left, few-templates, few-bodies, total-short, entries-below-records}
 use Rattle.pending_drain.proofs.HeldTotals.{held-fits}
 
 module _ (w b : List ℕ) (legal : LegalWords w (length b)) where
@@ -79,6 +78,11 @@ module _ (w b : List ℕ) (legal : LegalWords w (length b)) where
       pub removed-placed : Placed 0 (limitsOf w .«max_total_bytes») (entriesFrom w′ entriesAt (r .entries))
       removed-placed =
           placed-left (rows-tied w (length b) legal) (limitsOf w .«max_total_bytes») (rows-placed w (length b) legal)
+          (few-templates w (length b) legal) (few-bodies w (length b) legal) (total-short w (length b) legal) done
+
+      pub removed-bytes : r .bytes ≡ lensSum (entriesFrom w′ entriesAt (r .entries))
+      removed-bytes =
+          bytes-left (rows-tied w (length b) legal) (limitsOf w .«max_total_bytes») (rows-placed w (length b) legal)
           (few-templates w (length b) legal) (few-bodies w (length b) legal) (total-short w (length b) legal) done
 
       pub removed-below : entriesAt + entryWords * r .entries ≤ recordsAt (limitsOf w)

@@ -4,7 +4,7 @@ use mathlib.Core.Path.{_≡_, refl, sym, ap, _∙_, subst}
 use mathlib.Core.Logic.{_≢_}
 use mathlib.Core.Bool.{Bool, true, false, _||_, cond}
 use mathlib.Core.List.{List, [], _∷_, _++_, append-nil}
-use Prim.Native.Nat.{ℕ, _+_, _≤_, _<_}
+use Prim.Native.Nat.{ℕ, _+_, _^_, _≤_, _<_}
 use native.Mathlib.Omega.{arith}
 use lib.Dec.{eqb}
 use lib.ListN.{length, drop, length-append, length-map}
@@ -13,7 +13,7 @@ use Rattle.areas.specs.Overwrite.{putAt}
 use Rattle.areas.proofs.Puts.{length-put, drop-put-from}
 use Rattle.config.specs.declared.PendingFlowsConfig.{PendingFlowsConfig}
 use Rattle.config.specs.Limits.{maxBodies}
-use Rattle.config.proofs.Lists.{All, all-map, all-last}
+use Rattle.config.proofs.Lists.{All, all-map}
 use Rattle.table.specs.declared.Entry.{Entry}
 use Rattle.table.specs.declared.TemplateRecord.{TemplateRecord}
 use Rattle.table.specs.Layout.{limitsOf, heldCount, entryCount, chanceCount, entriesAt, recordsAt}
@@ -22,9 +22,9 @@ use Rattle.table.specs.WellFormed.{wellFormed}
 use Rattle.table.proofs.Words.{length-records, length-entries}
 use Rattle.table.proofs.Facts.{Placed, LegalWords, words-say}
 use Rattle.table.proofs.Labels.{absent-says}
-use Rattle.table_entries.specs.Sums.{heldSum}
+use Rattle.table_entries.specs.Sums.{lensSum}
 use Rattle.table_entries.specs.Pack.{packedEnd}
-use Rattle.table_entries.proofs.Lengths.{lensSum, held-all, placed-wider}
+use Rattle.table_entries.proofs.Lengths.{lens-more, placed-wider}
 use Rattle.table_entries.proofs.Packed.{packed-end}
 use Rattle.table_records.specs.Add.{inserted}
 use Rattle.table_records.proofs.AddedIndex.{index-after-adding}
@@ -37,7 +37,7 @@ use Rattle.pending_flows.specs.View.{cacheOf, bodiesAt, templateAt, templatesAt
 use Rattle.table_view.proofs.Tied.{Tied, TiedApart}
 use Rattle.table_view.proofs.Swept.{placed-within}
 use Rattle.table_view.proofs.Closed.{templates-append, same-templates}
-use Rattle.table_view.proofs.Totals.{lens-total, held-sum-lens}
+use Rattle.table_view.proofs.Totals.{lens-owned, lens-total}
 use Rattle.table_view.proofs.Appended.{appended-placed, appended-bodies}
 use Rattle.table_view.proofs.Added.{has-last, differ-last, newRecord, added-tied, appended-tally, appended-apart}
 use Rattle.table_view.proofs.Added.{same-tally, same-labels-apart}
@@ -50,7 +50,7 @@ use Rattle.pending_offer.specs.Promises.{bodyOf}
 use Rattle.pending_offer.specs.Room.{roomEntries, roomBytes, roomPlace, newEntry, ChoosesLabel}
 use Rattle.pending_offer.proofs.Rooms.{Room, room-made}
 use Rattle.pending_offer.proofs.Settled.{outcome, settled-limited}
-use Rattle.pending_offer.proofs.Left.{left-placed}
+use Rattle.pending_offer.proofs.Left.{left-placed, left-bytes}
 use Rattle.pending_offer.proofs.Outcomes.{leaves, others, accepted-held}
 use Rattle.pending_offer.proofs.Labels.{Chosen, others-left, fresh-left, few-left, label-chosen}
 
@@ -65,24 +65,20 @@ known-more a rs r is e known = has-last (e .label) rs r ∙ by-label (hasLabel (
 
 -- the lengths of all entries are the bytes of the records' templates and of the bodies apart
 lens-apart : {a : ℕ} {rs : List TemplateRecord} {es : List Entry} {is : List ℕ} (b : List ℕ) (most : ℕ) →
-    TiedApart a rs es is → Placed 0 most es → most ≤ length b → a < 1024 →
+    TiedApart a rs es is → Placed 0 most es → most ≤ length b →
     lensSum es ≡ sumTemplates size (templatesAt b es rs) + sumBodies size (bodiesAt b a es)
-lens-apart {a} {rs} {es} b most h placed lent small =
+lens-apart {a} {rs} {es} b most h placed lent =
     let r : TemplateRecord = record { key = 0; label = a; count = 0 } in
     let apart = all-map (λ u. a ≢ u .label) (λ u. u .label ≢ a) (λ u d e. d (sym e)) rs
     (absent-says a rs (h .label-apart)) in
-    let below = all-last (λ u. u .label < 1024) rs r (h .labels-small) small in
     let known = all-map _ (λ e. hasLabel (e .label) (rs ++ (r ∷ [])) ≡ true) (known-more a rs r refl) es
     (h .labels-known) in
-    let total : heldSum 1024 es ≡ sumTemplates size (templatesAt b es (rs ++ (r ∷ []))) =
-    held-sum-lens 1024 (rs ++ (r ∷ []))
-    (all-map (λ u. u .label < 1024) (λ u. 1024 ≢ u .label) (λ u l e. omega arith) (rs ++ (r ∷ [])) below) es
-    (all-map (λ e. hasLabel (e .label) (rs ++ (r ∷ [])) ≡ true) _ (λ e k _. k) es known)
+    let total : lensSum es ≡ sumTemplates size (templatesAt b es (rs ++ (r ∷ []))) =
+    lens-owned (rs ++ (r ∷ [])) es known
     ∙ lens-total b (rs ++ (r ∷ [])) es (differ-last (λ u. u .label) rs r apart (h .labels-differ))
     (placed-within 0 (length b) es (placed-wider 0 most (length b) es lent placed)) in
     omega (
       arith,
-      held-all 1024 es (h .entries-small),
       ap (sumTemplates size) (templates-append b es rs (r ∷ [])),
       sum-templates size (templatesAt b es rs) (templateAt b es r ∷ []),
     )
@@ -167,7 +163,7 @@ module _ {w b : List ℕ} {l′ : PendingFlowsConfig} {i : ℕ} {body : List ℕ
         arith,
         settled-limited w b (known .ok) i x (known .small) .within .room,
         packed-end 0 es,
-        lens-apart b most (chosen .tied) placed-before (legal .limits-legal .bytes-enough) (chosen .below),
+        lens-apart b most (chosen .tied) placed-before (legal .limits-legal .bytes-enough),
         ap (sumTemplates size) rest-is,
         ap (sumBodies size) (chosen .bodies),
         ap (sumTemplates size) held-is,
@@ -175,6 +171,12 @@ module _ {w b : List ℕ} {l′ : PendingFlowsConfig} {i : ℕ} {body : List ℕ
         sum-templates size rest (newest ∷ []),
         sum-append size own (x ∷ []),
       )
+
+  bytes-are : left .bytes ≡ lensSum es
+  bytes-are = left-bytes w b (known .ok) i clock (length body) (plan .label) (known .plans) (known .removed)
+
+  pub total-fits : left .bytes + length body < 2 ^ 64
+  total-fits = omega (arith, bytes-are, packed-end 0 es, body-room, legal .limits-legal .total-small)
 
   -- the rows with the body behind the others, and its template's record newest
   abbrev place : ℕ
@@ -218,6 +220,10 @@ module _ {w b : List ℕ} {l′ : PendingFlowsConfig} {i : ℕ} {body : List ℕ
         appended-tally apart-before e refl,
         same-tally es roomy-entries (made .same-labels) a,
       )
+
+  -- the lengths before, and the body's
+  pub lens-after : left .bytes + length body ≡ lensSum entries-after
+  lens-after = omega (arith, bytes-are, made .same-lens, lens-more roomy-entries e)
 
   -- as many entries as before, and one
   pub one-more : length entries-after ≡ left .entries + 1

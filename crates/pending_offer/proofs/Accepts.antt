@@ -1,5 +1,5 @@
 -- An accepted offer, from the steps of the code: the removal, the label, the body, the header. Assumes nothing.
-use mathlib.Core.Path.{_≡_, ap, sym, _∙_, subst}
+use mathlib.Core.Path.{_≡_, sym, _∙_, subst}
 use mathlib.Core.List.{List}
 use Prim.Native.Nat.{ℕ, _+_, _*_, _-_, _^_, _≤_, _<_}
 use native.Mathlib.Omega.{arith}
@@ -7,12 +7,11 @@ use lib.ListN.{length, drop}
 use Rattle.areas.specs.Overwrite.{overwritten}
 use Rattle.areas.proofs.Puts.{drop-more}
 use Rattle.config.specs.declared.PendingFlowsConfig.{PendingFlowsConfig}
-use Rattle.config.specs.Limits.{recordWords, entryWords, wordsNeeded}
+use Rattle.config.specs.Limits.{headerWords, recordWords, wordsNeeded}
 use Rattle.table.specs.declared.TemplateRecord.{TemplateRecord}
 use Rattle.table.specs.Layout.{limitsOf, entriesAt, recordsAt}
 use Rattle.table.specs.Table.{tableOf, entriesFrom, recordsFrom}
 use Rattle.table.proofs.Facts.{Placed, LegalWords, words-say, places-hold}
-use Rattle.table_entries.specs.Sums.{heldSum}
 use Rattle.cache_model.specs.Bodies.{Body, allBodies}
 use Rattle.cache_model.specs.Cache.{done}
 use Rattle.cache_model.specs.Offer.{accepted, offered}
@@ -26,12 +25,11 @@ use Rattle.offer_plan.specs.declared.plan.OfferPlan.{OfferPlan}
 use Rattle.pending_offer.specs.Promises.{bodyOf}
 use Rattle.pending_offer.specs.Room.{RoomFor, AddsBody}
 use Rattle.pending_offer.specs.Settle.{settledFigures}
-use Rattle.pending_offer.proofs.Settled.{sum-small, outcome, drops-counted, bytes-counted}
-use Rattle.pending_offer.proofs.Settled.{settled-does}
+use Rattle.pending_offer.proofs.Settled.{outcome, drops-counted, settled-does}
 use Rattle.pending_offer.proofs.Left.{left-behind}
 use Rattle.pending_offer.proofs.Outcomes.{accepted-verdict}
 use Rattle.pending_offer.proofs.Accepted.{Accepting, placed-before, chosen, records-few, body-room, one-more}
-use Rattle.pending_offer.proofs.Accepted.{tied-after, placed-after, bytes-long, bytes-behind, held-after}
+use Rattle.pending_offer.proofs.Accepted.{lens-after, tied-after, placed-after, bytes-long, bytes-behind, held-after}
 use Rattle.pending_offer.proofs.Accepted.{entries-few}
 
 module _ {w b : List ℕ} {l′ : PendingFlowsConfig} {i : ℕ} {body : List ℕ} {clock : ℕ} {plan : OfferPlan}
@@ -93,12 +91,8 @@ module _ {w b : List ℕ} {l′ : PendingFlowsConfig} {i : ℕ} {body : List ℕ
         (omega (arith, records-few known)) (added .behind)
         ∙ left-behind w b (known .ok) i clock (length body) (plan .label) (known .plans) (known .removed)
 
-    pub accepted-settles : (entriesAt + entryWords * (left .entries + 1) ≤ length w₂)
-        × (heldSum 1024 (entriesFrom w₂ entriesAt (left .entries + 1)) ≤ 18446744073709551615)
-    accepted-settles = (
-      omega (arith, entries-few known, legal .limits-legal .words-enough),
-      sum-small (l .«max_total_bytes») (legal .limits-legal .total-small) rows placed,
-    )
+    pub accepted-settles : headerWords ≤ length w₂
+    accepted-settles = omega (arith, legal .header-long)
 
   verdict : outcome w b (known .ok) i x (known .small) .verdict ≡ accepted
   verdict = accepted-verdict w b (known .ok) i x (known .small) (known .plans) (known .room)
@@ -116,22 +110,11 @@ module _ {w b : List ℕ} {l′ : PendingFlowsConfig} {i : ℕ} {body : List ℕ
     pub accepted-fewer : left .entries ≤ h
     accepted-fewer = omega (arith, counted)
 
-    -- where none of them goes, the bytes are known
-    pub accepted-total : {w₂ b₂ : List ℕ} (long : length w₂ ≡ length w)
-        (adds : AddsBody l′ (left .records) (left .entries) r body clock w₁ b w₂ b₂) {f : HeaderFigures} →
-        f ≡ figuresAt w →
-        (h - left .entries ≡ 0 → heldSum 1024 (entriesFrom w₂ entriesAt (left .entries + 1)) ≡ f .total + length body)
-    accepted-total long adds figures none =
-        let total = bytes-counted w b (known .ok) i x (known .small) verdict _ (tied-after known)
-        (l .«max_total_bytes») (omega (arith, bytes-long known, legal .limits-legal .bytes-enough)) (placed-after known)
-        (held-after known) (omega (arith, counted, accepted-fewer)) in
-        rw (added long adds .entries) (omega (arith, total, ap (λ (g : HeaderFigures). g .total) figures))
-
     pub accepted-does : {w₂ b₂ w′ : List ℕ} (long : length w₂ ≡ length w)
         (adds : AddsBody l′ (left .records) (left .entries) r body clock w₁ b w₂ b₂) {f : HeaderFigures} →
         f ≡ figuresAt w →
         w′ ≡ overwritten w₂ (headerOf l′ (settledFigures f 1 (h - left .entries)
-        (heldSum 1024 (entriesFrom w₂ entriesAt (left .entries + 1))) (left .records + 1) (left .entries + 1))) →
+        (left .bytes + length body) (left .records + 1) (left .entries + 1))) →
         Does (offered i x) (cacheOf (tableOf w) b) (areasOf w b) done (areasOf w′ b₂)
     accepted-does {w₂} {b₂} {w′} long adds figures written =
         let k = left .records + 1 in
@@ -143,6 +126,7 @@ module _ {w b : List ℕ} {l′ : PendingFlowsConfig} {i : ℕ} {body : List ℕ
         let same-long : length b₂ ≡ length b = rw (more .bytes) (bytes-long known) in
         let same-behind : drop (l .«max_total_bytes») b₂ ≡ drop (l .«max_total_bytes») b =
         rw (more .bytes) (bytes-behind known) in
-        settled-does w b (known .ok) i x (known .small) verdict w₂ b₂ k m (h - left .entries) (rows long adds)
-        (placed long adds) held (omega (arith, counted)) same-long long (known .limits) figures written same-behind
+        settled-does w b (known .ok) i x (known .small) verdict w₂ b₂ k m (h - left .entries)
+        (left .bytes + length body) (rows long adds) (placed long adds) held
+        (lens-after known ∙ rw (more .entries)) (omega (arith, counted)) same-long long (known .limits) figures written same-behind
         (behind long adds)

@@ -31,16 +31,16 @@ module _ (w b : List ℕ) (ok : wellFormed w (length b) ≡ true) (f : HeaderFig
   pub held-most : length (allBodies (cacheOf (tableOf w) b .held)) ≤ f .entries
   held-most = rw is (omega (arith, held-counted w b ok))
 
--- the header that is written, with the counters raised and the bytes summed
+-- the header that is written, with the counters raised
 pub header-settled : (w : List ℕ) (l : PendingFlowsConfig) (f : HeaderFigures)
-    (cached dropped total templates entries : ℕ) {c d t : ℕ} {w′ : List ℕ} → c ≡ raised (f .cached) cached →
-    d ≡ raised (f .dropped) dropped → t ≡ total →
+    (cached dropped total templates entries : ℕ) {c d : ℕ} {w′ : List ℕ} → c ≡ raised (f .cached) cached →
+    d ≡ raised (f .dropped) dropped →
     w′ ≡ overwritten w (headerOf l (record {
       cached = c;
       dropped = d;
-      total = t;
+      total = total;
       templates = templates;
       entries = entries;
       chance = 0;
     })) → w′ ≡ overwritten w (headerOf l (settledFigures f cached dropped total templates entries))
-header-settled w l f cached dropped total templates entries e g h written = written ∙ rw (e, g, h)
+header-settled w l f cached dropped total templates entries e g written = written ∙ rw (e, g)

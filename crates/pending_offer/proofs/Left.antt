@@ -1,8 +1,8 @@
 -- What a planned removal leaves: of each held template the bodies that the plan leaves, of what is handed out nothing.
 -- Assumes nothing.
-use mathlib.Core.Path.{_≡_, sym, ap, _∙_}
+use mathlib.Core.Path.{_≡_, refl, sym, ap, _∙_}
 use mathlib.Core.Bool.{true, cond}
-use mathlib.Core.List.{List, [], append-nil}
+use mathlib.Core.List.{List, [], _∷_, append-nil}
 use Prim.Native.Nat.{ℕ, _+_, _*_, _≤_, _<_}
 use native.Mathlib.Omega.{arith}
 use native.Mathlib.Decide.{ℕ-discrete}
@@ -19,8 +19,9 @@ use Rattle.table.specs.declared.TemplateRecord.{TemplateRecord}
 use Rattle.table.specs.Layout.{limitsOf, heldCount, entryCount, chanceCount, entriesAt, recordsAt}
 use Rattle.table.specs.Table.{tableOf, entriesFrom, recordsFrom, records, tally}
 use Rattle.table.specs.WellFormed.{wellFormed}
-use Rattle.table.proofs.Words.{length-entries}
+use Rattle.table.proofs.Words.{length-entries, length-records}
 use Rattle.table.proofs.Facts.{Placed, LegalRecord, LegalWords, words-say}
+use Rattle.table_entries.specs.Sums.{lensSum}
 use Rattle.table_entries.specs.Sweep.{swept}
 use Rattle.table_entries.proofs.Lengths.{placed-wider}
 use Rattle.table_entries.proofs.Swept.{length-swept, all-swept}
@@ -31,6 +32,8 @@ use Rattle.cache_model.proofs.Lists.{length-part}
 use Rattle.cache_model.proofs.Parts.{sub-keep}
 use Rattle.cache_model.proofs.Plans.{thin}
 use Rattle.cache_model.proofs.Thinning.{thinned}
+use Rattle.pending_flows.specs.declared.header.HeaderFigures.{HeaderFigures}
+use Rattle.pending_flows.specs.Header.{figuresAt}
 use Rattle.pending_flows.specs.View.{bodiesAt, templatesAt, cacheOf}
 use Rattle.pending_flows.proofs.Templates.{length-bodies}
 use Rattle.table_view.proofs.Swept.{Within, bodyStays, placed-within, swept-bodies, swept-tally}
@@ -40,7 +43,7 @@ use Rattle.table_view.proofs.Summed.{lenMost}
 use Rattle.pending_calls.specs.declared.removal.Removed.{Removed}
 use Rattle.pending_calls.specs.Removal.{Removes}
 use Rattle.pending_calls.proofs.Removed.{TiedRowsApart, placed-left, apart-left, rows-left, rows-tied}
-use Rattle.pending_calls.proofs.Removed.{rows-placed, few-templates, few-bodies, total-short}
+use Rattle.pending_calls.proofs.Removed.{bytes-left, rows-placed, few-templates, few-bodies, total-short}
 use Rattle.offer_plan.specs.declared.plan.OfferPlan.{OfferPlan}
 use Rattle.offer_plan.specs.Plan.{planTest, skipOf, Plans}
 use Rattle.offer_plan.proofs.Skips.{skips-long}
@@ -118,6 +121,29 @@ module _ (w b : List ℕ) (ok : wellFormed w (length b) ≡ true) (clock : ℕ) 
               h .count-right,
               h .within-cap,
             )
+
+    -- so where every body stays, nothing is handed out
+    pub none-handed : {f : HeaderFigures} → f ≡ figuresAt w → plan .none ≡ true → f .chance ≡ 0
+    none-handed figures none =
+        omega (
+          arith,
+          ap (λ (g : HeaderFigures). g .chance) figures,
+          no-records handed handed-legal handed-leaving,
+          length-drop (heldCount w) (records w),
+          length-records w (recordsAt (limitsOf w)) (heldCount w + chanceCount w),
+        )
+      where
+        no-records : (us : List TemplateRecord) → All Legal us → All (λ u. tally (u .label) stay ≡ 0) us →
+            length us ≡ 0
+        no-records [] a gone = refl
+        no-records (u ∷ us) a gone =
+            absurd (omega (
+              arith,
+              a .0 .some-bodies,
+              a .0 .count-right,
+              gone .0,
+              ap (tally (u .label)) (plans .keeps-all none),
+            ))
 
     module _ (x : Body) (sized : size x ≡ len) where
       -- what the plan leaves of a template's bodies
@@ -210,6 +236,11 @@ module _ (w b : List ℕ) (ok : wellFormed w (length b) ≡ true) (i clock len a
   pub left-placed : Placed 0 most (entriesFrom w₁ entriesAt (left .entries))
   left-placed =
       placed-left (rows-tied w (length b) said) most (rows-placed w (length b) said) (few-templates w (length b) said)
+      (few-bodies w (length b) said) (total-short w (length b) said) done
+
+  pub left-bytes : left .bytes ≡ lensSum (entriesFrom w₁ entriesAt (left .entries))
+  left-bytes =
+      bytes-left (rows-tied w (length b) said) most (rows-placed w (length b) said) (few-templates w (length b) said)
       (few-bodies w (length b) said) (total-short w (length b) said) done
 
   -- the bodies apart

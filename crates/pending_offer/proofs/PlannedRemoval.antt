@@ -34,6 +34,11 @@ module _ (w : List ℕ) (n : ℕ) (ok : wellFormed w n ≡ true) (clock apart : 
       apart (skipOf w plan) w w′ r
   removed-planned f l p t skip is limits from test skips done = rw (test, skips, is, from, limits) at done
 
+-- where nothing goes, nothing is handed out
+pub none-chance : (plan : OfferPlan) (f : HeaderFigures) → (plan .none ≡ true → f .chance ≡ 0) → plan .none ≡ true →
+    f .chance ≡ 0
+none-chance plan f hands none = hands none
+
 -- as many skips as labels
 pub planned-long : (w : List ℕ) (plan : OfferPlan) (skip : List ℕ) → skip ≡ skipOf w plan → length skip ≡ 1024
 planned-long w plan skip is = ap length is ∙ skips-long w plan

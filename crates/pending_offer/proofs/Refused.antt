@@ -1,22 +1,21 @@
 -- An offer that is turned down with 20: what the planned removal leaves is what the definition leaves. Assumes nothing.
-use mathlib.Core.Path.{_≡_, refl, ap, sym, _∙_}
+use mathlib.Core.Path.{_≡_, refl, sym, _∙_}
 use mathlib.Core.Bool.{true, cond}
 use mathlib.Core.List.{List, []}
-use Prim.Native.Nat.{ℕ, _+_, _*_, _-_, _^_, _≤_, _<_}
+use Prim.Native.Nat.{ℕ, _+_, _-_, _^_, _≤_, _<_}
 use native.Mathlib.Omega.{arith}
 use lib.Dec.{eqb}
 use lib.ListN.{length}
 use borrow.Author.Tests.{ne-eqb}
 use Rattle.areas.specs.Overwrite.{overwritten}
 use Rattle.config.specs.declared.PendingFlowsConfig.{PendingFlowsConfig}
-use Rattle.config.specs.Limits.{entryWords}
+use Rattle.config.specs.Limits.{headerWords}
 use Rattle.config.proofs.Lists.{all-both}
 use Rattle.table.specs.Layout.{limitsOf, heldCount, entryCount, chanceCount, entriesAt, recordsAt}
 use Rattle.table.specs.Table.{tableOf, entriesFrom, recordsFrom}
 use Rattle.table.specs.WellFormed.{wellFormed}
 use Rattle.table.proofs.Words.{length-entries}
 use Rattle.table.proofs.Facts.{Placed, LegalRecord, LegalWords, words-say}
-use Rattle.table_entries.specs.Sums.{heldSum}
 use Rattle.cache_model.specs.Bodies.{Body, allBodies}
 use Rattle.cache_model.specs.Cache.{number}
 use Rattle.cache_model.specs.Offer.{refused, offered}
@@ -33,10 +32,9 @@ use Rattle.offer_plan.specs.Plan.{planTest, skipOf, Plans}
 use Rattle.pending_offer.specs.Promises.{bodyOf}
 use Rattle.pending_offer.specs.Settle.{settledFigures}
 use Rattle.pending_offer.proofs.HeldBodies.{held-most}
-use Rattle.pending_offer.proofs.Settled.{sum-small, outcome, drops-counted, bytes-counted}
-use Rattle.pending_offer.proofs.Settled.{settled-does}
-use Rattle.pending_offer.proofs.Left.{held-legal, left-rows, left-placed, left-entries, left-records}
-use Rattle.pending_offer.proofs.Left.{left-behind, staying, bodies-left, templates-left}
+use Rattle.pending_offer.proofs.Settled.{outcome, drops-counted, settled-does}
+use Rattle.pending_offer.proofs.Left.{held-legal, left-rows, left-placed, left-bytes, left-entries}
+use Rattle.pending_offer.proofs.Left.{left-records, left-behind, staying, bodies-left, templates-left}
 use Rattle.pending_offer.proofs.Outcomes.{leaves, refused-verdict, refused-held}
 
 -- The words w, the bytes b and the limits l′ before the offer of a body under the id i; the plan; the words that the
@@ -91,18 +89,8 @@ module _ {w b : List ℕ} {l′ : PendingFlowsConfig} {i : ℕ} {body : List ℕ
       (bodies-left w b (known .ok) clock plan i (length body) (known .plans) x refl))
       ∙ sym (refused-held w b (known .ok) i x (known .small) (known .plans) (known .full)))
 
-  pub refused-settles : (entriesAt + entryWords * left .entries ≤ length w₁)
-      × (heldSum 1024 (entriesFrom w₁ entriesAt (left .entries)) ≤ 18446744073709551615)
-  refused-settles = (
-    omega (
-      arith,
-      known .removed .few-entries,
-      known .long,
-      legal .entries-fit,
-      legal .limits-legal .words-enough,
-    ),
-    sum-small (l .«max_total_bytes») (legal .limits-legal .total-small) rows placed,
-  )
+  pub refused-settles : headerWords ≤ length w₁
+  refused-settles = omega (arith, known .long, legal .header-long)
 
   -- how many bodies are held before, h, and how many of them go
   module _ {h : ℕ} (before : h ≡ length (allBodies (cacheOf (tableOf w) b .held))) where
@@ -117,14 +105,6 @@ module _ {w b : List ℕ} {l′ : PendingFlowsConfig} {i : ℕ} {body : List ℕ
     pub refused-fewer : left .entries ≤ h
     refused-fewer = omega (arith, counted)
 
-    -- where none of them goes, the bytes are as before
-    pub refused-total : {f : HeaderFigures} → f ≡ figuresAt w →
-        (h - left .entries ≡ 0 → heldSum 1024 (entriesFrom w₁ entriesAt (left .entries)) ≡ f .total + 0)
-    refused-total figures none =
-        let total = bytes-counted w b (known .ok) i x (known .small) verdict b rows (l .«max_total_bytes»)
-        (legal .limits-legal .bytes-enough) placed held-left (omega (arith, counted, refused-fewer)) in
-        omega (arith, total, ap (λ (g : HeaderFigures). g .total) figures)
-
     pub drops-fit : h - left .entries + 1 < 2 ^ 64
     drops-fit =
         omega (
@@ -136,9 +116,10 @@ module _ {w b : List ℕ} {l′ : PendingFlowsConfig} {i : ℕ} {body : List ℕ
 
     pub refused-does : {f : HeaderFigures} {w′ : List ℕ} → f ≡ figuresAt w →
         w′ ≡ overwritten w₁ (headerOf l′ (settledFigures f 0 (h - left .entries + 1)
-        (heldSum 1024 (entriesFrom w₁ entriesAt (left .entries))) (left .records) (left .entries))) →
+        (left .bytes) (left .records) (left .entries))) →
         Does (offered i x) (cacheOf (tableOf w) b) (areasOf w b) (number 20) (areasOf w′ b)
     refused-does figures written =
         settled-does w b (known .ok) i x (known .small) verdict w₁ b (left .records) (left .entries)
-        (h - left .entries + 1) rows placed held-left (omega (arith, counted)) refl (known .long) (known .limits)
+        (h - left .entries + 1) (left .bytes) rows placed held-left
+        (left-bytes w b (known .ok) i clock (length body) 1024 (known .plans) (known .removed)) (omega (arith, counted)) refl (known .long) (known .limits)
         figures written refl (left-behind w b (known .ok) i clock (length body) 1024 (known .plans) (known .removed))

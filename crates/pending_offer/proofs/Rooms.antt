@@ -14,11 +14,12 @@ use Rattle.table.specs.Table.{entriesFrom}
 use Rattle.table.specs.WellFormed.{placesLegal}
 use Rattle.table.proofs.Facts.{Placed, places-say, places-hold}
 use Rattle.table.proofs.Labels.{labelsOf}
+use Rattle.table_entries.specs.Sums.{lensSum}
 use Rattle.table_entries.specs.Pack.{lastEnd, packedEntries, packedEnd, packedBytes, Packs}
 use Rattle.table_entries.specs.Sweep.{putEntry}
 use Rattle.table_entries.proofs.Lengths.{placed-wider, first-end-within, last-within}
 use Rattle.table_entries.proofs.Frames.{entries-below, entries-more, take-put, drop-put, entry-put}
-use Rattle.table_entries.proofs.Packed.{packed-placed}
+use Rattle.table_entries.proofs.Packed.{packed-placed, lens-packed}
 use Rattle.pending_flows.specs.View.{bodiesAt}
 use Rattle.table_view.proofs.Packed.{packed-long, packed-bodies, packed-drop}
 use Rattle.pending_offer.specs.Room.{fitsBehind, roomEntries, roomBytes, roomPlace, MakesRoom, StoresBody}
@@ -87,10 +88,11 @@ unfolding packedEntries
 packed-labels at [] = refl
 packed-labels at (e ∷ es) = ap (λ (ks : List ℕ). e .label ∷ ks) (packed-labels (at + e .len) es)
 
--- What making room leaves: the same labels and bodies, and a place for a body of this length.
+-- What making room leaves: the same labels, lengths and bodies, and a place for a body of this length.
 pub record Room (len most : ℕ) (es : List Entry) (b : List ℕ) (es′ : List Entry) (b′ : List ℕ) (place : ℕ)
     : Type 0 where
   pub same-labels : labelsOf es′ ≡ labelsOf es
+  pub same-lens : lensSum es′ ≡ lensSum es
   pub same-bodies : (k : ℕ) → bodiesAt b′ k es′ ≡ bodiesAt b k es
   pub placed : Placed 0 place es′
   pub fits : place + len ≤ most
@@ -110,6 +112,7 @@ room-made len most es b p lent room = by-test (fitsBehind len most es) refl
         (cond t (lastEnd es) (packedEnd 0 es))
     by-test true e = record {
       same-labels = refl;
+      same-lens = refl;
       same-bodies = λ k. refl;
       placed = placed-last 0 most es p;
       fits = leb-true (lastEnd es + len) most e;
@@ -118,6 +121,7 @@ room-made len most es b p lent room = by-test (fitsBehind len most es) refl
     }
     by-test false e = record {
       same-labels = packed-labels 0 es;
+      same-lens = lens-packed 0 es;
       same-bodies = λ k. packed-bodies k 0 0 es b (omega arith) wide;
       placed = packed-placed 0 (packedEnd 0 es) es (omega arith);
       fits = room;

@@ -2,8 +2,8 @@
 use mathlib.Core.Path.{_≡_, refl, sym, ap, _∙_, subst}
 use mathlib.Core.Bool.{true}
 use mathlib.Core.Option.{some}
-use mathlib.Core.List.{List, [], _∷_}
-use Prim.Native.Nat.{ℕ, _+_, _^_, _≤_, _<_}
+use mathlib.Core.List.{List, []}
+use Prim.Native.Nat.{ℕ, _+_, _≤_}
 use native.Mathlib.Omega.{arith}
 use lib.ListN.{length, take, drop, drop-of-length-le}
 use lib.Seq.{take-all}
@@ -12,70 +12,34 @@ use Rattle.areas.specs.Overwrite.{overwritten}
 use Rattle.config.specs.declared.PendingFlowsConfig.{PendingFlowsConfig}
 use Rattle.config.specs.Limits.{wordsNeeded}
 use Rattle.config.proofs.Limits as Config
-use Rattle.config.proofs.Lists.{all-map}
 use Rattle.table.specs.declared.Entry.{Entry}
 use Rattle.table.specs.declared.TemplateRecord.{TemplateRecord}
-use Rattle.table.specs.Layout.{limitsOf, cachedWord, droppedWord, totalWord, entriesAt, recordsAt}
-use Rattle.table.specs.Table.{tableOf, entriesFrom, recordsFrom, indexFrom, hasLabel, sumLens}
+use Rattle.table.specs.Layout.{limitsOf, cachedWord, droppedWord, entriesAt, recordsAt}
+use Rattle.table.specs.Table.{tableOf, entriesFrom, recordsFrom, indexFrom, sumLens}
 use Rattle.table.specs.WellFormed.{wellFormed}
 use Rattle.table.proofs.Words.{length-records}
 use Rattle.table.proofs.Facts.{Placed, LegalWords, words-say}
-use Rattle.table_entries.specs.Sums.{heldSum}
+use Rattle.table_entries.specs.Sums.{lensSum}
 use Rattle.table_entries.proofs.Frames.{entries-above}
-use Rattle.table_entries.proofs.Lengths.{held-all, lens-within, placed-wider}
 use Rattle.table_records.proofs.Frames.{records-above, index-above}
-use Rattle.cache_model.specs.Bodies.{Body, Template, size, sumBodies, sumTemplates, expired, allBodies}
+use Rattle.cache_model.specs.Bodies.{Body, Template, size, expired, allBodies}
 use Rattle.cache_model.specs.Cache.{Cache, Outcome, raised}
 use Rattle.cache_model.specs.Offer.{Verdict, Offered, acceptedBodies, refusalDrops, verdictAnswer, steps2to5}
 use Rattle.cache_model.specs.Offer.{settled, offered}
 use Rattle.cache_model.proofs.Calls.{Limited, limited, settled-within}
 use Rattle.cache_model.proofs.Drops.{offer-drops}
-use Rattle.cache_model.proofs.Weights.{offer-conserves}
 use Rattle.pending_flows.specs.View.{areasOf, cacheOf, view, templatesAt, chanceAt}
 use Rattle.pending_flows.specs.declared.header.HeaderFigures.{HeaderFigures}
 use Rattle.pending_flows.specs.Header.{figuresAt, headerOf}
 use Rattle.pending_flows.proofs.Templates.{length-all-bodies}
 use Rattle.pending_flows.proofs.Weights.{counts-sum}
-use Rattle.table_view.proofs.Tied.{Tied, entries-small}
-use Rattle.table_view.proofs.Swept.{placed-within}
-use Rattle.table_view.proofs.Totals.{held-sum-lens, lens-total}
+use Rattle.table_view.proofs.Tied.{Tied}
+use Rattle.table_view.proofs.Totals.{lens-owned}
 use Rattle.table_view.proofs.Stored.{Stored, tableWith, legal-limited, stored-view}
 use Rattle.pending_calls.specs.Promises.{Does}
 use Rattle.pending_calls.proofs.Headers.{headed, headed-limits, headed-flag, headed-length, headed-behind}
 use Rattle.pending_calls.proofs.Removed.{TiedRows}
-use Rattle.offer_plan.proofs.Tables.{total-held}
 use Rattle.pending_offer.specs.Settle.{settledFigures}
-
--- all entries are held
-pub lens-held : {rs : List TemplateRecord} {es : List Entry} {is : List ℕ} → Tied rs es is →
-    heldSum 1024 es ≡ sumLens rs es
-lens-held {rs} {es} tied =
-    held-sum-lens 1024 rs
-    (all-map (λ r. r .label < 1024) (λ r. 1024 ≡ r .label → ⊥) (λ r h e. omega arith) rs (tied .labels-small)) es
-    (all-map (λ e. hasLabel (e .label) rs ≡ true) (λ e. (e .label ≡ 1024 → ⊥) → hasLabel (e .label) rs ≡ true)
-    (λ e known _. known) es (tied .labels-known))
-
--- and no longer than the bytes that are lent
-pub sum-small : {rs : List TemplateRecord} {es : List Entry} {is : List ℕ} (most : ℕ) → most ≤ 67108864 →
-    Tied rs es is → Placed 0 most es → heldSum 1024 es ≤ 18446744073709551615
-sum-small {rs} {es} most small tied placed =
-    omega (
-      arith,
-      held-all 1024 es (entries-small rs es (tied .labels-small) (tied .labels-known)),
-      lens-within 0 most es (omega arith) placed,
-    )
-
--- the total after an offer, where nothing went: s is the sum of the lengths
-module _ (removed before more s : ℕ) (known : removed ≡ 0 → s ≡ before + more) (none : removed ≡ 0) where
-  pub known-fits : s ≤ 18446744073709551615 → before + more < 2 ^ 64
-  known-fits fits = omega (arith, known none)
-
-  pub known-total : before + more ≡ s
-  known-total = sym (known none)
-
-no-bodies-weigh : (bs : List Body) → length bs ≡ 0 → sumBodies size bs ≡ 0
-no-bodies-weigh [] e = refl
-no-bodies-weigh (x ∷ xs) e = absurd (omega arith)
 
 -- a header over rows that no template is handed out from
 module _ (l : PendingFlowsConfig) (f : HeaderFigures) (w : List ℕ) where
@@ -140,27 +104,12 @@ module _ (w b : List ℕ) (ok : wellFormed w (length b) ≡ true) (i : ℕ) (x :
           ap (λ (u : Verdict). length (acceptedBodies u x)) verdict,
         )
 
-    -- where none went, the bytes are those from before and those of the body that is stored
-    pub bytes-counted : (most : ℕ) → most ≤ length b′ → Placed 0 most es → templatesAt b′ es rs ≡ outcome .left .held →
-        length (outcome .left .removed) ≡ 0 → heldSum 1024 es ≡ totalWord w + sumBodies size (acceptedBodies v x)
-    bytes-counted most lent placed left none =
-        omega (
-          arith,
-          lens-held tied,
-          lens-total b′ rs es (tied .labels-differ)
-              (placed-within 0 (length b′) es (placed-wider 0 most (length b′) es lent placed)),
-          ap (sumTemplates size) left,
-          offer-conserves size l (expired (l .ttl) (x .clock)) i x (cache .held),
-          no-bodies-weigh (outcome .left .removed) none,
-          ap (λ (u : Verdict). sumBodies size (acceptedBodies u x)) verdict,
-          total-held w b ok,
-        )
-
   -- rows that stand for what is left held, and the header over them
-  module _ {v : Verdict} (verdict : outcome .verdict ≡ v) (w₁ b′ : List ℕ) (k m leaving : ℕ)
+  module _ {v : Verdict} (verdict : outcome .verdict ≡ v) (w₁ b′ : List ℕ) (k m leaving total : ℕ)
       (tied : TiedRows (recordsAt l) k m w₁)
       (placed : Placed 0 (l .«max_total_bytes») (entriesFrom w₁ entriesAt m))
       (left : templatesAt b′ (entriesFrom w₁ entriesAt m) (recordsFrom w₁ (recordsAt l) k) ≡ outcome .left .held)
+      (sum : total ≡ lensSum (entriesFrom w₁ entriesAt m))
       (drops : leaving ≡ length (outcome .left .removed) + refusalDrops v)
       (bytes-long : length b′ ≡ length b) (words-long : length w₁ ≡ length w) where
     abbrev rs : List TemplateRecord
@@ -170,8 +119,7 @@ module _ (w b : List ℕ) (ok : wellFormed w (length b) ≡ true) (i : ℕ) (x :
     es = entriesFrom w₁ entriesAt m
 
     abbrev figures : HeaderFigures
-    figures =
-        settledFigures (figuresAt w) (length (acceptedBodies v x)) leaving (heldSum 1024 es) k m
+    figures = settledFigures (figuresAt w) (length (acceptedBodies v x)) leaving total k m
 
     abbrev settledWords : List ℕ
     settledWords = headed l figures w₁
@@ -200,15 +148,15 @@ module _ (w b : List ℕ) (ok : wellFormed w (length b) ≡ true) (i : ℕ) (x :
         headed-length l figures w₁ (omega (arith, legal .header-long)) ∙ words-long in
         let limits : Config.LegalLimits l (length b′) (length settledWords) =
         rw (bytes-long, long) (legal .limits-legal) in
-        let total : heldSum 1024 es ≡ sumLens (take k rs) es = rw all-held (lens-held tied) in
+        let lens : total ≡ sumLens (take k rs) es = sum ∙ rw all-held (lens-owned rs es (tied .labels-known)) in
         stored-view (header-stored l figures w₁ refl) b′ (omega arith) limits (omega (arith, legal .header-long)) tied
-        placed total (subst Limited (sym settled-cache) settled-limited) .1
+        placed lens (subst Limited (sym settled-cache) settled-limited) .1
         ∙ ap (λ (c : Cache). some c) settled-cache
 
     -- the header as it is written, with the limits and the figures that were read
     pub settled-does : {l′ : PendingFlowsConfig} {f : HeaderFigures} {w′ : List ℕ} → l′ ≡ l → f ≡ figuresAt w →
         w′ ≡ overwritten w₁
-        (headerOf l′ (settledFigures f (length (acceptedBodies v x)) leaving (heldSum 1024 es) k m)) →
+        (headerOf l′ (settledFigures f (length (acceptedBodies v x)) leaving total k m)) →
         drop (l .«max_total_bytes») b′ ≡ drop (l .«max_total_bytes») b →
         drop (wordsNeeded l) w₁ ≡ drop (wordsNeeded l) w →
         Does (offered i x) cache (areasOf w b) (verdictAnswer v) (areasOf w′ b′)

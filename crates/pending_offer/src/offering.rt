@@ -70,14 +70,14 @@ fn accept(
     let label = choose_label(words, limits, left.records, plan.label);
     add_body(words, bytes, limits, left, label, id, body, clock);
     let drops = held - (left.entries as u64);
+    let total = left.bytes + (body.len() as u64);
     settle(
         words,
         limits,
         figures,
         1,
         drops,
-        drops,
-        body.len() as u64,
+        total,
         left.records + 1,
         left.entries + 1,
     );
@@ -114,8 +114,7 @@ fn turn_down(
         figures,
         0,
         drops + 1,
-        drops,
-        0,
+        left.bytes,
         left.records,
         left.entries,
     );

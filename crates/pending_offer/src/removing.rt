@@ -77,7 +77,7 @@ pub fn remove_planned(
 ) -> Removed
     requires { ⌜ (wellFormed (now words) (length (now bytes)) ≡ true) × (limits ≡ limitsOf (now words)) ⌝ }
     requires { ⌜ (figures ≡ figuresAt (now words)) × (plan .evicted ≤ heldCount (now words)) ⌝ }
-    requires { ⌜ KeepsAll (now words) clock plan ⌝ }
+    requires { ⌜ KeepsAll (now words) clock plan × (plan .none ≡ true → figures .chance ≡ 0) ⌝ }
     ensures { λ r.
         ⌜ Removes (planTest (limitsOf (now (words .entry))) clock plan) (recordsAt (limitsOf (now (words .entry))))
         (heldCount (now (words .entry)) + chanceCount (now (words .entry))) (entryCount (now (words .entry))) apart

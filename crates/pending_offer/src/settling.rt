@@ -1,14 +1,13 @@
 // The counters, and the header after an offer.
 ghost use mathlib.Core.Path.{_≡_};
 ghost use mathlib.Core.Bool.{true};
-ghost use Prim.Native.Nat.{_+_, _*_, _≤_};
+ghost use Prim.Native.Nat.{_≤_};
 ghost use lib.ListN.{length, set};
 ghost use Rattle.areas.specs.Overwrite.{overwritten};
-ghost use Rattle.config.specs.Limits.{headerWords, entryWords};
-ghost use Rattle.table.specs.Layout.{limitsOf, droppedWord, entriesAt};
-ghost use Rattle.table.specs.Table.{tableOf, entriesFrom};
+ghost use Rattle.config.specs.Limits.{headerWords};
+ghost use Rattle.table.specs.Layout.{limitsOf, droppedWord};
+ghost use Rattle.table.specs.Table.{tableOf};
 ghost use Rattle.table.specs.WellFormed.{wellFormed};
-ghost use Rattle.table_entries.specs.Sums.{heldSum};
 ghost use Rattle.cache_model.specs.Bodies.{allBodies};
 ghost use Rattle.cache_model.specs.Cache.{raised};
 ghost use Rattle.pending_flows.specs.Header.{droppedAt, figuresAt, headerOf};
@@ -20,8 +19,6 @@ use pending_flows::HeaderFigures;
 use pending_flows::handed_count;
 use pending_flows::write_header;
 use table::DROPPED;
-use table::LABELS;
-use table_entries::held_bytes;
 
 // Counts one more dropped body.
 pub fn count_drop(words: &mut [u64])
@@ -46,41 +43,23 @@ pub fn held_bodies(
     figures.entries - handed_count(words, bytes, limits)
 }
 
-// The bytes that are held after an offer. Where none of the bodies that were held went, they are those from before, and
-// so many more.
-fn total_after(words: &[u64], entries: usize, removed: u64, before: u64, more: u64) -> u64
-    requires { ⌜ (entriesAt + entryWords * entries ≤ length (now words)) × (heldSum 1024 (entriesFrom (now words)
-        entriesAt entries) ≤ 18446744073709551615) ⌝ }
-    requires { ⌜ (removed ≡ 0 → heldSum 1024 (entriesFrom (now words) entriesAt entries) ≡ before + more) ⌝ }
-    ensures { λ r. ⌜ r ≡ heldSum 1024 (entriesFrom (now (words .entry)) entriesAt entries) ⌝ }
-{
-    if removed == 0 {
-        return before + more;
-    }
-    held_bytes(words, entries, LABELS as u64)
-}
-
-// Writes the header after an offer: so many bodies more are cached and dropped, so many templates and bodies are held,
-// and nothing is handed out. So many of the held bodies were `removed`; those that are stored have `more` bytes.
+// Writes the header after an offer: so many bodies more are cached and dropped, so many bytes, templates and bodies are
+// held, and nothing is handed out.
 pub fn settle(
     words: &mut [u64],
     limits: PendingFlowsConfig,
     figures: HeaderFigures,
     cached: u64,
     dropped: u64,
-    removed: u64,
-    more: u64,
+    total: u64,
     templates: usize,
     entries: usize,
 )
-    requires { ⌜ (entriesAt + entryWords * entries ≤ length (now words)) × (heldSum 1024 (entriesFrom (now words)
-        entriesAt entries) ≤ 18446744073709551615) ⌝ }
-    requires { ⌜ (removed ≡ 0 → heldSum 1024 (entriesFrom (now words) entriesAt entries) ≡ figures .total + more) ⌝ }
+    requires { ⌜ headerWords ≤ length (now words) ⌝ }
     ensures { λ _.
         ⌜ now (words .exit) ≡ overwritten (now (words .entry)) (headerOf limits (settledFigures figures cached dropped
-        (heldSum 1024 (entriesFrom (now (words .entry)) entriesAt entries)) templates entries)) ⌝ }
+        total templates entries)) ⌝ }
 {
-    let total = total_after(words, entries, removed, figures.total, more);
     let after = HeaderFigures {
         cached: raised(figures.cached, cached),
         dropped: raised(figures.dropped, dropped),

@@ -15,7 +15,7 @@ use Rattle.table.specs.Table.{Table, tableOf, entriesFrom, recordsFrom, indexFr
 use Rattle.table.specs.WellFormed.{wellFormed, placesLegal}
 use Rattle.table.proofs.Words.{length-records, length-entries}
 use Rattle.table.proofs.Facts.{places-hold, LegalTable, table-holds, LegalWords, words-say}
-use Rattle.table_entries.specs.Sums.{heldSum}
+use Rattle.table_entries.specs.Sums.{lensSum}
 use Rattle.table_entries.proofs.Lengths.{placed-wider}
 use Rattle.cache_model.specs.Bodies.{Template}
 use Rattle.cache_model.specs.Cache.{Cache}
@@ -34,10 +34,10 @@ use Rattle.table_view.proofs.Stored.{limits-legal, legal-limited, tied-legal}
 use Rattle.resize_steps.specs.Cut.{Cuts}
 use Rattle.resize_steps.specs.Fit.{FitsTotal, FitsPlaces}
 use Rattle.pending_resize.specs.Shrink.{Shrinks}
-use Rattle.resize_steps.proofs.Rows.{Rows, rows-small}
+use Rattle.resize_steps.proofs.Rows.{Rows, lens-left}
 use Rattle.resize_steps.proofs.Cuts.{cut-rows, cut-templates}
 use Rattle.resize_steps.proofs.Fits.{rows-bytes, underTotal, fit-rows, fit-templates}
-use Rattle.resize_steps.proofs.Places.{placed-rows, placed-templates, placed-behind}
+use Rattle.resize_steps.proofs.Places.{placed-rows, placed-lens, placed-templates, placed-behind}
 use Rattle.pending_resize.proofs.Moves.{records-moved, index-moved, entries-before, words-behind}
 
 module _ (l : PendingFlowsConfig) (w b : List ℕ) (p : ℕ) (f : HeaderFigures)
@@ -108,10 +108,10 @@ module _ (l : PendingFlowsConfig) (w b : List ℕ) (p : ℕ) (f : HeaderFigures)
         ∙ ap (λ (ts : List Template). cut l ts .held) held-are
 
     pub total-fits : ((entriesAt + entryWords * few .entries ≤ p) × (p + recordWords * few .records ≤ length w₁))
-        × ((few .records ≤ 1024) × (heldSum 1024 (entriesFrom w₁ entriesAt (few .entries)) ≤ 18446744073709551615))
+        × ((few .records ≤ 1024) × (few .bytes ≡ lensSum (entriesFrom w₁ entriesAt (few .entries))))
     total-fits = (
       (omega (arith, cut-fits .0, c .few-entries), omega (arith, cut-fits .0, c .few-records, c .long)),
-      (rows-cut .records-few, rows-small rows-cut),
+      (rows-cut .records-few, lens-left start _ _ c),
     )
 
     module _ {w₂ : List ℕ} {left : Removed}
@@ -153,7 +153,7 @@ module _ (l : PendingFlowsConfig) (w b : List ℕ) (p : ℕ) (f : HeaderFigures)
         below : entriesAt + entryWords * m ≤ p
         below = omega (arith, total-fits .0, t .few-entries)
 
-        fits : heldSum 1024 (entriesFrom w₂ entriesAt m) ≤ room
+        fits : lensSum (entriesFrom w₂ entriesAt m) ≤ room
         fits = omega (arith, rows-bytes rows-fit b lent, within .room)
 
         rows-placed : Rows p k m room w₃
@@ -247,6 +247,8 @@ module _ (l : PendingFlowsConfig) (w b : List ℕ) (p : ℕ) (f : HeaderFigures)
             shrinks = record {
               few-records = few-records;
               few-entries = few-entries;
+              bytes = lens-left rows-cut _ _ t ∙ rw (same-entries)
+                  (sym (placed-lens rows-fit room (new .total-small) fits b lent below s));
               legal = rw (same-records, same-index, same-entries)
                   (table-holds leftTable (indexFrom w₃ p k) (left-legal .0));
               templates = rw (same-records, same-entries) (templates-placed ∙ templates-fit);

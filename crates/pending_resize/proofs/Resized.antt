@@ -3,14 +3,14 @@ use mathlib.Core.Path.{_≡_, sym, ap, _∙_}
 use mathlib.Core.Bool.{true}
 use mathlib.Core.List.{List, [], append-nil}
 use mathlib.Core.Option.{some}
-use Prim.Native.Nat.{ℕ, _+_, _*_, _-_, _≤_, max}
+use Prim.Native.Nat.{ℕ, _+_, _-_, _≤_, max}
 use native.Mathlib.Omega.{arith}
 use lib.ListN.{length, take, drop, drop-of-length-le}
 use lib.Seq.{take-all}
 use Rattle.areas.specs.Overwrite.{overwritten}
 use Rattle.areas.proofs.Puts.{drop-more}
 use Rattle.config.specs.declared.PendingFlowsConfig.{PendingFlowsConfig}
-use Rattle.config.specs.Limits.{headerWords, entryWords, wordsNeeded, configNumber}
+use Rattle.config.specs.Limits.{headerWords, wordsNeeded, configNumber}
 use Rattle.config.proofs.Limits as Config
 use Rattle.table.specs.declared.Entry.{Entry}
 use Rattle.table.specs.declared.TemplateRecord.{TemplateRecord}
@@ -20,7 +20,6 @@ use Rattle.table.specs.Reads.{countSum}
 use Rattle.table.specs.WellFormed.{wellFormed}
 use Rattle.table.proofs.Words.{length-records, length-entries, length-index}
 use Rattle.table.proofs.Facts.{LegalTable, table-says, LegalWords, words-say}
-use Rattle.table_entries.specs.Sums.{heldSum}
 use Rattle.table_entries.proofs.Frames.{entries-above}
 use Rattle.table_records.proofs.Frames.{records-above, index-above}
 use Rattle.cache_model.specs.Bodies.{Template, allBodies}
@@ -40,7 +39,7 @@ use Rattle.table_view.proofs.Tied.{Tied, legal-tied}
 use Rattle.table_view.proofs.Stored.{limits-legal, legal-limited, Stored, tableWith, stored-view}
 use Rattle.pending_resize.specs.Shrink.{tableLeft, Shrinks}
 use Rattle.pending_resize.specs.Promises.{ResizesTo}
-use Rattle.resize_steps.proofs.Rows.{Rows, rows-small}
+use Rattle.resize_steps.proofs.Rows.{Rows}
 use Rattle.resize_steps.proofs.Fits.{rows-total}
 
 -- where the records stand
@@ -102,12 +101,6 @@ module _ (l : PendingFlowsConfig) (w b : List ℕ)
     long : length w₁ ≡ length w
     long = s .frame .words-long
 
-    pub entries-within : entriesAt + entryWords * m ≤ length w₁
-    entries-within = omega (arith, s .few-entries, new .words-enough, long)
-
-    pub bytes-small : heldSum 1024 es ≤ 18446744073709551615
-    bytes-small = rows-small left-rows
-
     pub left-header : headerWords ≤ length w₁
     left-header = omega (arith, old .header-long, long)
 
@@ -127,32 +120,32 @@ module _ (l : PendingFlowsConfig) (w b : List ℕ)
 
       -- ---- under the new header
 
-      abbrev after : ℕ → ℕ → HeaderFigures
-      after dropped total = record {
+      abbrev after : ℕ → HeaderFigures
+      after dropped = record {
         cached = f .cached;
         dropped = dropped;
-        total = total;
+        total = left .bytes;
         templates = k;
         entries = m;
         chance = 0;
       }
 
-      module _ (dropped total : ℕ) (w₂ : List ℕ) (sum : total ≡ heldSum 1024 es)
+      module _ (dropped : ℕ) (w₂ : List ℕ)
           (more : dropped ≡ raised (f .dropped) (f .entries - handed - m))
-          (written : w₂ ≡ overwritten w₁ (headerOf l (after dropped total))) where
-        is-headed : w₂ ≡ headed l (after dropped total) w₁
+          (written : w₂ ≡ overwritten w₁ (headerOf l (after dropped))) where
+        is-headed : w₂ ≡ headed l (after dropped) w₁
         unfolding overwritten
         is-headed = written
 
         behind : drop entriesAt w₂ ≡ drop entriesAt w₁
-        behind = rw is-headed (headed-behind l (after dropped total) w₁ entriesAt (omega arith))
+        behind = rw is-headed (headed-behind l (after dropped) w₁ entriesAt (omega arith))
 
-        stored : Stored l (f .cached) dropped total k m 0 rs es is w₂
+        stored : Stored l (f .cached) dropped (left .bytes) k m 0 rs es is w₂
         stored =
             let z : k + 0 ≡ k = omega arith in
             record {
-              limits-are = rw is-headed (headed-limits l (after dropped total) w₁);
-              ttl-flag = rw is-headed (headed-flag l (after dropped total) w₁);
+              limits-are = rw is-headed (headed-limits l (after dropped) w₁);
+              ttl-flag = rw is-headed (headed-flag l (after dropped) w₁);
               cached-is = rw is-headed;
               dropped-is = rw is-headed;
               total-is = rw is-headed;
@@ -167,7 +160,7 @@ module _ (l : PendingFlowsConfig) (w b : List ℕ)
         dropped-count : f .entries - handed - m ≡ length (shrunk l (cache .held) .removed)
         dropped-count = omega (arith, removed-count)
 
-        resized-cache : cacheOf (tableWith l (f .cached) dropped total k rs es) b₁
+        resized-cache : cacheOf (tableWith l (f .cached) dropped (left .bytes) k rs es) b₁
             ≡ resizedTo l cache (shrunk l (cache .held)) .cache
         unfolding resizedTo
         resized-cache =
@@ -177,9 +170,9 @@ module _ (l : PendingFlowsConfig) (w b : List ℕ)
             rw (whole, none, s .templates, more, dropped-count, figures)
 
         headed-long : length w₂ ≡ length w₁
-        headed-long = rw is-headed (headed-length l (after dropped total) w₁ (omega (arith, left-header)))
+        headed-long = rw is-headed (headed-length l (after dropped) w₁ (omega (arith, left-header)))
 
-        limited : Limited (cacheOf (tableWith l (f .cached) dropped total k rs es) b₁)
+        limited : Limited (cacheOf (tableWith l (f .cached) dropped (left .bytes) k rs es) b₁)
         limited = rw resized-cache (resized-to-within cache (legal-limited w b old) l (limits-legal new))
 
         bytes-long : length b₁ ≡ length b
@@ -190,7 +183,7 @@ module _ (l : PendingFlowsConfig) (w b : List ℕ)
             let whole : take k rs ≡ rs = take-all k rs (omega (arith, length-records w₁ (recordsAt l) k)) in
             let legal : Config.LegalLimits l (length b₁) (length w₂) = rw (bytes-long, headed-long, long) new in
             stored-view stored b₁ (omega arith) legal (omega (arith, left-header, headed-long)) left-tied
-            (left-rows .placed) (sum ∙ rw whole (rows-total left-rows)) limited .1
+            (left-rows .placed) (s .bytes ∙ rw whole (rows-total left-rows)) limited .1
             ∙ ap some resized-cache
 
         pub resizes-to : ResizesTo l cache (areasOf w b) (f .entries - handed - m) (areasOf w₂ b₁)

@@ -8,6 +8,7 @@ use Rattle.config.specs.Limits.{wordsNeeded, maxBodies}
 use Rattle.table.specs.Layout.{limitsOf, entriesAt, recordsAt}
 use Rattle.table.specs.Table.{Table, tableOf, entriesFrom, recordsFrom, indexFrom, sumLens}
 use Rattle.table.specs.WellFormed.{tableLegal}
+use Rattle.table_entries.specs.Sums.{lensSum}
 use Rattle.cache_model.specs.Calls.{shrunk}
 use Rattle.pending_flows.specs.View.{Areas, areasOf, templatesAt, cacheOf}
 use Rattle.pending_calls.specs.Promises.{Untouched}
@@ -35,6 +36,7 @@ UntouchedByBoth l a a′ =
 pub record Shrinks (l : PendingFlowsConfig) (w b w′ b′ : List ℕ) (r : Removed) : Type 0 where
   pub few-records : r .records ≤ l .«max_pending_flows»
   pub few-entries : r .entries ≤ maxBodies l
+  pub bytes : r .bytes ≡ lensSum (entriesFrom w′ entriesAt (r .entries))
   pub legal : tableLegal (tableLeft l (r .records) (r .entries) w′) (indexFrom w′ (recordsAt l) (r .records)) ≡ true
   pub templates : templatesAt b′ (entriesFrom w′ entriesAt (r .entries)) (recordsFrom w′ (recordsAt l) (r .records))
       ≡ shrunk l (cacheOf (tableOf w) b .held) .held

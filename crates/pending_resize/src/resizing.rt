@@ -17,10 +17,8 @@ use pending_flows::HeaderFigures;
 use pending_flows::figures_at;
 use pending_flows::handed_count;
 use pending_flows::write_header;
-use table::LABELS;
 use table::limits_at;
 use table::records_at;
-use table_entries::held_bytes;
 
 // What a resize answers.
 pub enum ResizeAnswer {
@@ -47,11 +45,10 @@ fn resize_cache(words: &mut [u64], bytes: &mut [u8], config: PendingFlowsConfig)
     let handed = handed_count(words, bytes, limits);
     let left = shrink(words, bytes, from, figures, config);
     let dropped = figures.entries - handed - (left.entries as u64);
-    let total = held_bytes(words, left.entries, LABELS as u64);
     let resized = HeaderFigures {
         cached: figures.cached,
         dropped: raised(figures.dropped, dropped),
-        total,
+        total: left.bytes,
         templates: left.records as u64,
         entries: left.entries as u64,
         chance: 0,

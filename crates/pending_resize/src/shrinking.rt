@@ -40,7 +40,7 @@ pub fn shrink(
         figures.entries as usize,
         config,
     );
-    let left = fit_total(words, from, few.records, few.entries, room);
+    let left = fit_total(words, from, few.records, few.entries, few.bytes, room);
     fit_places(words, bytes, left.entries, room);
     let to = records_at(config);
     areas::move_words(words, from, to, RECORD_WORDS * left.records);

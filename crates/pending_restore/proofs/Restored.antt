@@ -18,7 +18,6 @@ use Rattle.table.specs.Table.{tableOf, entriesFrom, recordsFrom, records, index
 use Rattle.table.specs.WellFormed.{wellFormed}
 use Rattle.table.proofs.Facts.{Placed, LegalWords, words-say}
 use Rattle.table.proofs.Words.{records-behind}
-use Rattle.table_entries.specs.Sums.{heldSum}
 use Rattle.table_records.specs.Close.{closed}
 use Rattle.cache_model.specs.Bodies.{Template}
 use Rattle.cache_model.specs.Cache.{Cache, Outcome, done, noChance}
@@ -30,15 +29,15 @@ use Rattle.pending_flows.specs.View.{bodiesAt, templatesAt, chanceAt, areasOf, 
 use Rattle.pending_flows.proofs.Questions.{first-records}
 use Rattle.pending_flows.proofs.Templates.{length-bodies}
 use Rattle.table_view.proofs.Tied.{Tied, words-tied, no-label-tied}
+use Rattle.table_view.proofs.Totals.{lens-owned}
 use Rattle.table_view.proofs.Stored.{tableWith, legal-limited}
 use Rattle.pending_calls.specs.declared.removal.Removed.{Removed}
 use Rattle.pending_calls.specs.Promises.{Does}
 use Rattle.pending_calls.proofs.Headers.{headed}
 use Rattle.pending_calls.proofs.Removed.{TiedRows}
 use Rattle.pending_restore.specs.Restoring.{HasChance, TakesBack}
-use Rattle.pending_drain.proofs.HeldTotals.{held-total}
 use Rattle.pending_drain.proofs.LegalRows.{bodies-within, bodies-short, entries-few, held-limited, removed-tied}
-use Rattle.pending_drain.proofs.LegalRows.{removed-placed}
+use Rattle.pending_drain.proofs.LegalRows.{removed-placed, removed-bytes}
 use Rattle.pending_restore.proofs.RestoredRows as Rows
 use Rattle.pending_drain.proofs.Written.{written-frame, written-view}
 
@@ -114,13 +113,13 @@ module _ (w b : List ℕ) (n : ℕ) (t : TemplateRecord) where
       figures = record {
         cached = cachedWord w;
         dropped = droppedWord w;
-        total = heldSum 1024 es;
+        total = r .bytes;
         templates = r .records;
         entries = r .entries;
         chance = 0;
       }
 
-      cache-is : cacheOf (tableWith (limitsOf w) (cachedWord w) (droppedWord w) (heldSum 1024 es) (r .records)
+      cache-is : cacheOf (tableWith (limitsOf w) (cachedWord w) (droppedWord w) (r .bytes) (r .records)
           (recordsFrom w′ p (r .records + 0)) es) b ≡ after
       unfolding recordsFrom
       cache-is =
@@ -143,13 +142,13 @@ module _ (w b : List ℕ) (n : ℕ) (t : TemplateRecord) where
           let tail : drop (wordsNeeded (limitsOf w)) w′ ≡ drop (wordsNeeded (limitsOf w)) w =
           drop-more (wordsNeeded (limitsOf w)) (p + recordWords * (heldCount w + chanceCount w)) w′ w
           (omega (arith, legal .templates-fit)) (taken .tail) in
+          let left : TiedRows p (r .records) (r .entries) w′ = no-label-tied (removed-tied w b legal taken) in
           let rows : TiedRows p (r .records + 0) (r .entries) w′ =
-          subst (λ (k : ℕ). TiedRows p k (r .entries) w′) (sym (add-zero (r .records)))
-          (no-label-tied (removed-tied w b legal taken)) in
+          subst (λ (k : ℕ). TiedRows p k (r .entries) w′) (sym (add-zero (r .records))) left in
           record {
             answer = ap (λ (o : Outcome). o .answer) (sym put-back-is);
             holds = written-view w b w′ legal figures long rows (omega arith) placed
-                (held-total (removed-tied w b legal taken))
+                (removed-bytes w b legal taken ∙ lens-owned rs es (left .labels-known))
                 (cache-is ∙ ap (λ (o : Outcome). o .cache) (sym put-back-is))
                 (put-back-keeps cache (legal-limited w b legal) (t .key) n);
             frame = written-frame w b w′ legal figures long tail;

@@ -3,23 +3,20 @@
 use mathlib.Core.Path.{_≡_, refl, sym, ap, subst, _∙_}
 use mathlib.Core.Bool.{Bool, true, false}
 use mathlib.Core.List.{List, [], _∷_, _++_}
-use Prim.Native.Nat.{ℕ, _+_, _*_, _-_, _≤_, _<_}
+use Prim.Native.Nat.{ℕ, _+_, _-_, _≤_, _<_}
 use native.Mathlib.Omega.{arith}
 use lib.ListN.{length, set, length-set}
 use borrow.Author.Tests.{eq-eqb, ne-eqb}
 use Rattle.areas.specs.Overwrite.{overwritten}
 use Rattle.config.specs.declared.PendingFlowsConfig.{PendingFlowsConfig}
-use Rattle.config.specs.Limits.{headerWords, entryWords}
 use Rattle.config.proofs.Limits.{cap-small}
 use Rattle.config.proofs.Lists.{All, all-back}
 use Rattle.table.specs.declared.TemplateRecord.{TemplateRecord}
-use Rattle.table.specs.Layout.{limitsOf, entriesAt, recordsAt}
-use Rattle.table.specs.Table.{tableOf, entriesFrom}
+use Rattle.table.specs.Layout.{limitsOf, recordsAt}
+use Rattle.table.specs.Table.{tableOf}
 use Rattle.table.specs.WellFormed.{wellFormed}
 use Rattle.table.proofs.Facts.{LegalRecord, words-say}
 use Rattle.table_entries.specs.declared.StayTest.{StayTest}
-use Rattle.table_entries.specs.Sums.{heldSum}
-use Rattle.table_entries.specs.Sweep.{swept}
 use Rattle.cache_model.specs.Cache.{done}
 use Rattle.cache_model.specs.Calls.{putBack}
 use Rattle.pending_flows.specs.declared.header.HeaderFigures.{HeaderFigures}
@@ -29,7 +26,6 @@ use Rattle.pending_calls.specs.declared.removal.Removed.{Removed}
 use Rattle.pending_calls.specs.Removal.{everything, Removes}
 use Rattle.pending_calls.specs.Promises.{Does}
 use Rattle.pending_calls.proofs.Performed.{view-some, damaged-performs, performed, untouched-all}
-use Rattle.pending_calls.proofs.Removed.{records-within}
 use Rattle.pending_restore.specs.declared.ChanceFound.{ChanceFound}
 use Rattle.pending_restore.specs.declared.ChanceFound.the-variants as Chance
 use Rattle.pending_restore.specs.declared.PutBackRefusal.the-variants as Refusal
@@ -39,7 +35,6 @@ use Rattle.pending_restore.specs.Restoring.{HasChance, FindsChance, Take
 use Rattle.pending_restore.specs.Promises.{PutsBack}
 use Rattle.pending_drain.proofs.AsRead.{as-read}
 use Rattle.pending_drain.proofs.Handing.{length-zeros}
-use Rattle.pending_drain.proofs.LegalRows.{removed-below, removed-fits}
 use Rattle.pending_restore.proofs.Restored.{put-back-does}
 
 -- ---- what is taken out
@@ -53,29 +48,6 @@ pub taken-back : (label less p : ℕ) (f : HeaderFigures) (w w′ : List ℕ) (r
 taken-back label less p f w w′ r all e d = rw (← all, ← e) d
 
 -- ---- a well-formed cache
-
--- what is asked before the header is written, where so many entries are left
-pub record Settling (left : ℕ) (w : List ℕ) : Type 0 where
-  pub entries-fit : entriesAt + entryWords * left ≤ length w
-  pub bytes-fit : (out : ℕ) → heldSum out (entriesFrom w entriesAt left) ≤ 18446744073709551615
-  pub header-fits : headerWords ≤ length w
-
-module _ (w b : List ℕ) (ok : wellFormed w (length b) ≡ true) {l : PendingFlowsConfig} {f : HeaderFigures} {p : ℕ}
-    (limits : l ≡ limitsOf w) (figures : f ≡ figuresAt w) (from : p ≡ recordsAt l) {q : StayTest} {a : ℕ}
-    {skip w′ : List ℕ} {r : Removed} where
-  pub settling : Removes q p (f .templates + f .chance) (f .entries) a skip w w′ r → length w′ ≡ length w →
-      Settling (r .entries) w′
-  settling taken long = as-read w limits figures from
-      (λ l f p. Removes q p (f .templates + f .chance) (f .entries) a skip w w′ r → Settling (r .entries) w′)
-      (λ k. record {
-        entries-fit = omega (
-          arith,
-          removed-below w b (words-say w (length b) ok) k,
-          records-within w (length b) (words-say w (length b) ok),
-        );
-        bytes-fit = removed-fits w b (words-say w (length b) ok) k;
-        header-fits = omega (arith, words-say w (length b) ok .header-long);
-      }) taken
 
 module _ (w b : List ℕ) (n : ℕ) (t : TemplateRecord) (ok : wellFormed w (length b) ≡ true) (some : 0 < n)
     (chance : HasChance n t w) where
@@ -101,30 +73,29 @@ module _ (w b : List ℕ) (n : ℕ) (t : TemplateRecord) (ok : wellFormed w (len
     after-taking T k =
         as-read w limits figures from (λ l f p. TakesBack (t .label) (t .count - n) p f w w′ r → T l f p) k taken
 
-    pub put-back-written : {total : ℕ} {w″ : List ℕ} →
-        total ≡ heldSum 1024 (entriesFrom w′ entriesAt (r .entries)) →
+    pub put-back-written : {w″ : List ℕ} →
         w″ ≡ overwritten w′ (headerOf l (record {
           cached = f .cached;
           dropped = f .dropped;
-          total = total;
+          total = r .bytes;
           templates = r .records;
           entries = r .entries;
           chance = 0;
         })) →
         Does (putBack (t .key) n) (cacheOf (tableOf w) b) (areasOf w b) done (areasOf w″ b)
     unfolding overwritten
-    put-back-written {total} {w″} summed written =
+    put-back-written {w″} written =
         after-taking
         (λ l f p. w″ ≡ overwritten w′ (headerOf l (record {
           cached = f .cached;
           dropped = f .dropped;
-          total = total;
+          total = r .bytes;
           templates = r .records;
           entries = r .entries;
           chance = 0;
         })) →
         Does (putBack (t .key) n) (cacheOf (tableOf w) b) (areasOf w b) done (areasOf w″ b))
-        (λ k z. rw (z, summed) (put-back-does w b n t ok some chance k long)) written
+        (λ k z. rw z (put-back-does w b n t ok some chance k long)) written
 
 -- ---- the call, behind the test of 28
 

@@ -27,7 +27,6 @@ use table::TemplateRecord;
 use table::limits_at;
 use table::record_at;
 use table::records_at;
-use table_entries::held_bytes;
 use table_records::set_sum;
 
 // Why nothing is put back.
@@ -112,7 +111,7 @@ fn put_back(words: &mut [u64], bytes: &[u8], template: TemplateRecord, n: u64)
     let after = HeaderFigures {
         cached: figures.cached,
         dropped: figures.dropped,
-        total: held_bytes(words, removed.entries, LABELS as u64),
+        total: removed.bytes,
         templates: removed.records as u64,
         entries: removed.entries as u64,
         chance: 0,

@@ -1,7 +1,6 @@
 -- What is left of rows where they fit the new total: the last templates, and bodies that end within it.
 -- Assumes nothing.
 use mathlib.Core.Path.{_≡_, refl, ap, _∙_}
-use mathlib.Core.Logic.{_≢_}
 use mathlib.Core.Bool.{Bool, true, false, cond}
 use mathlib.Core.List.{List, []}
 use Prim.Native.Nat.{ℕ, _≤_, _<_}
@@ -14,7 +13,7 @@ use Rattle.table.specs.Layout.{entriesAt}
 use Rattle.table.specs.Table.{entriesFrom, recordsFrom, hasLabel, sumLens}
 use Rattle.table.proofs.Words.{length-entries}
 use Rattle.table.proofs.Labels.{tally-most}
-use Rattle.table_entries.specs.Sums.{summed, heldSum}
+use Rattle.table_entries.specs.Sums.{lensSum, summed}
 use Rattle.table_entries.proofs.Lengths.{placed-wider, label-bytes-most}
 use Rattle.table_entries.proofs.LabelSums.{summed-label}
 use Rattle.table_records.specs.Choose.{skipAll}
@@ -29,7 +28,7 @@ use Rattle.pending_calls.specs.Removal.{everything}
 use Rattle.table_view.proofs.Removed.{placed-short}
 use Rattle.table_view.proofs.Swept.{bodyStays, Within, placed-within}
 use Rattle.table_view.proofs.Summed.{label-bytes, everything-stays}
-use Rattle.table_view.proofs.Totals.{held-sum-lens, held-sum-total}
+use Rattle.table_view.proofs.Totals.{lens-owned, lens-total}
 use Rattle.resize_steps.specs.Removing.{zeros}
 use Rattle.resize_steps.specs.Fit.{overTotal, totalSkips, FitsTotal}
 use Rattle.resize_steps.proofs.Steps.{total-skips-long}
@@ -47,18 +46,9 @@ module _ {p k m most : ℕ} {w : List ℕ} (h : Rows p k m most w) where
   abbrev es : List Entry
   es = entriesFrom w entriesAt m
 
-  -- 1024 is no label
-  no-label : All (λ r. 1024 ≢ r .label) rs
-  no-label = all-map (λ r. r .label < 1024) (λ r. 1024 ≢ r .label) (λ r x e. omega arith) rs (h .tied .labels-small)
-
-  known : All (λ e. e .label ≢ 1024 → hasLabel (e .label) rs ≡ true) es
-  known =
-      all-map (λ e. hasLabel (e .label) rs ≡ true) (λ e. e .label ≢ 1024 → hasLabel (e .label) rs ≡ true) (λ e x _. x)
-      es (h .tied .labels-known)
-
   -- the bytes of all entries are those of the records
-  pub rows-total : heldSum 1024 es ≡ sumLens rs es
-  rows-total = held-sum-lens 1024 rs no-label es known
+  pub rows-total : lensSum es ≡ sumLens rs es
+  rows-total = lens-owned rs es (h .tied .labels-known)
 
   module _ (b : List ℕ) (lent : most ≤ length b) where
     abbrev ts : List Template
@@ -67,8 +57,8 @@ module _ {p k m most : ℕ} {w : List ℕ} (h : Rows p k m most w) where
     within : Within (length b) es
     within = placed-within 0 (length b) es (placed-wider 0 most (length b) es lent (h .placed))
 
-    pub rows-bytes : heldSum 1024 es ≡ byteTotal ts
-    rows-bytes = held-sum-total 1024 rs no-label b es (h .tied .labels-differ) within known
+    pub rows-bytes : lensSum es ≡ byteTotal ts
+    rows-bytes = rows-total ∙ lens-total b rs es (h .tied .labels-differ) within
 
     short : All (λ e. e .len ≤ 18446744073709551615) es
     short = placed-short 0 most 18446744073709551615 es (omega (arith, h .bytes-few)) (h .placed)
@@ -87,7 +77,7 @@ module _ {p k m most : ℕ} {w : List ℕ} (h : Rows p k m most w) where
     -- as many records go as the model evicts templates
     over-is : (room : ℕ) → overTotal room rs es ≡ evictions room 0 ts
     over-is room =
-        evictions-alike b es room (summed everything true zeros es) rs (heldSum 1024 es)
+        evictions-alike b es room (summed everything true zeros es) rs (lensSum es)
         (all-map (λ r. r .label < 1024)
         (λ r. getD (summed everything true zeros es) (r .label) 0 ≡ sumBodies size (bodiesAt b (r .label) es))
         (λ r x. sized (r .label) x) rs (h .tied .labels-small)) rows-bytes

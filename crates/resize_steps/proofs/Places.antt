@@ -14,13 +14,13 @@ use Rattle.table.specs.declared.TemplateRecord.{TemplateRecord}
 use Rattle.table.specs.Layout.{entriesAt}
 use Rattle.table.specs.Table.{entriesFrom, recordsFrom, indexFrom, hasLabel, tally}
 use Rattle.table.proofs.Facts.{Placed}
-use Rattle.table_entries.specs.Sums.{heldSum}
+use Rattle.table_entries.specs.Sums.{lensSum}
 use Rattle.table_entries.specs.Pack.{lastEnd, packedEntries, packedBytes}
-use Rattle.table_entries.proofs.Lengths.{held-all, first-end-within, placed-wider}
-use Rattle.table_entries.proofs.Packed.{packed-end, packed-placed, all-packed, tally-packed}
+use Rattle.table_entries.proofs.Lengths.{first-end-within, placed-wider}
+use Rattle.table_entries.proofs.Packed.{packed-end, packed-placed, all-packed, lens-packed, tally-packed}
 use Rattle.table_records.proofs.Frames.{records-above, index-above}
 use Rattle.pending_flows.specs.View.{bodiesAt, templatesAt}
-use Rattle.table_view.proofs.Tied.{Tied, entries-small}
+use Rattle.table_view.proofs.Tied.{Tied}
 use Rattle.table_view.proofs.Packed.{packed-bodies, packed-drop}
 use Rattle.table_view.proofs.Closed.{same-templates}
 use Rattle.resize_steps.specs.Fit.{fittedEntries, fittedBytes, FitsPlaces}
@@ -54,7 +54,7 @@ placed-narrow from most room (e ∷ x ∷ es) p end = (
 )
 
 module _ {p k m most : ℕ} {w : List ℕ} (h : Rows p k m most w) (room : ℕ) (small : room ≤ 67108864)
-    (fits : heldSum 1024 (entriesFrom w entriesAt m) ≤ room) where
+    (fits : lensSum (entriesFrom w entriesAt m) ≤ room) where
   abbrev rs : List TemplateRecord
   rs = recordsFrom w p k
 
@@ -62,9 +62,7 @@ module _ {p k m most : ℕ} {w : List ℕ} (h : Rows p k m most w) (room : ℕ) 
   es = entriesFrom w entriesAt m
 
   packed-room : Placed 0 room (packedEntries 0 es)
-  packed-room =
-      let labels = entries-small rs es (h .tied .labels-small) (h .tied .labels-known) in
-      packed-placed 0 room es (omega (arith, packed-end 0 es, held-all 1024 es labels))
+  packed-room = packed-placed 0 room es (omega (arith, packed-end 0 es))
 
   fitted-placed : Placed 0 room (fittedEntries room es)
   unfolding fittedEntries
@@ -73,6 +71,14 @@ module _ {p k m most : ℕ} {w : List ℕ} (h : Rows p k m most w) (room : ℕ) 
       by-test : (t : Bool) → leb (lastEnd es) room ≡ t → Placed 0 room (cond t es (packedEntries 0 es))
       by-test true e = placed-narrow 0 most room es (h .placed) (leb-true (lastEnd es) room e)
       by-test false e = packed-room
+
+  fitted-lens : lensSum (fittedEntries room es) ≡ lensSum es
+  unfolding fittedEntries
+  fitted-lens = by-test (leb (lastEnd es) room)
+    where
+      by-test : (t : Bool) → lensSum (cond t es (packedEntries 0 es)) ≡ lensSum es
+      by-test true = refl
+      by-test false = lens-packed 0 es
 
   fitted-tied : Tied rs (fittedEntries room es) (indexFrom w p k)
   unfolding fittedEntries
@@ -116,6 +122,9 @@ module _ {p k m most : ℕ} {w : List ℕ} (h : Rows p k m most w) (room : ℕ) 
         entries-few = h .entries-few;
         bytes-few = small;
       }
+
+      pub placed-lens : lensSum (entriesFrom w′ entriesAt m) ≡ lensSum es
+      placed-lens = rw (s .entries) fitted-lens
 
       pub placed-templates : templatesAt b′ (entriesFrom w′ entriesAt m) (recordsFrom w′ p k) ≡ templatesAt b es rs
       placed-templates =

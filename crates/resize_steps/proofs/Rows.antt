@@ -13,9 +13,9 @@ use Rattle.table.specs.Table.{entriesFrom, recordsFrom, indexFrom, tally}
 use Rattle.table.proofs.Words.{length-entries, length-records}
 use Rattle.table.proofs.Facts.{Placed}
 use Rattle.table_entries.specs.declared.StayTest.{StayTest}
-use Rattle.table_entries.specs.Sums.{sumMost, heldSum}
+use Rattle.table_entries.specs.Sums.{sumMost, lensSum}
 use Rattle.table_entries.specs.Sweep.{swept}
-use Rattle.table_entries.proofs.Lengths.{placed-wider, lens-within, held-all}
+use Rattle.table_entries.proofs.Lengths.{placed-wider}
 use Rattle.table_entries.proofs.Swept.{placed-swept, length-swept, all-swept}
 use Rattle.table_records.specs.Close.{closed, positions, remapped}
 use Rattle.table_records.proofs.ClosedIndex.{index-after-closing}
@@ -23,12 +23,13 @@ use Rattle.cache_model.specs.Bodies.{Body, keep}
 use Rattle.cache_model.proofs.Thinning.{thinned}
 use Rattle.pending_flows.specs.View.{bodiesAt, templatesAt}
 use Rattle.pending_calls.specs.declared.removal.Removed.{Removed}
-use Rattle.table_view.proofs.Tied.{Tied, no-label-tied, entries-small}
+use Rattle.table_view.proofs.Tied.{Tied, no-label-tied}
 use Rattle.table_view.proofs.Removed.{placed-short, label-counts, counts-but-none}
 use Rattle.table_view.proofs.Removed.{removed-apart}
 use Rattle.table_view.proofs.Swept.{bodyStays, Within, placed-within, swept-bodies, swept-tally}
 use Rattle.table_view.proofs.Closed.{closed-templates}
 use Rattle.table_view.proofs.Summed.{lenMost}
+use Rattle.pending_calls.proofs.Removed.{bytes-left}
 use Rattle.resize_steps.specs.Removing.{countsOf, RemovesSkipped}
 
 -- k records from word p on and m entries; their bodies end within `most` bytes
@@ -38,14 +39,6 @@ pub record Rows (p k m most : ℕ) (w : List ℕ) : Type 0 where
   pub records-few : k ≤ 1024
   pub entries-few : m ≤ 262144
   pub bytes-few : most ≤ 67108864
-
--- the bytes of rows are few
-pub rows-small : {p k m most : ℕ} {w : List ℕ} → Rows p k m most w →
-    heldSum 1024 (entriesFrom w entriesAt m) ≤ 18446744073709551615
-rows-small {p = p} {k = k} {m = m} {most = most} {w = w} h =
-    let es = entriesFrom w entriesAt m in
-    let labels = entries-small (recordsFrom w p k) es (h .tied .labels-small) (h .tied .labels-known) in
-    omega (arith, held-all 1024 es labels, lens-within 0 most es (omega arith) (h .placed), h .bytes-few)
 
 module _ {p k m most : ℕ} {w : List ℕ} (h : Rows p k m most w) (q : StayTest) (skip : List ℕ) where
   abbrev rs : List TemplateRecord
@@ -94,6 +87,11 @@ module _ {p k m most : ℕ} {w : List ℕ} (h : Rows p k m most w) (q : StayTest
       entries-few = omega (arith, s .few-entries, h .entries-few);
       bytes-few = h .bytes-few;
     }
+
+    pub lens-left : r .bytes ≡ lensSum (entriesFrom w′ entriesAt (r .entries))
+    lens-left =
+        bytes-left (h .tied) most (h .placed) (h .records-few) (omega (arith, h .entries-few))
+        (omega (arith, h .bytes-few)) s
 
   -- the templates of records, where the bodies of each are told
   module _ (b : List ℕ) (lent : most ≤ length b) (long : length skip ≡ 1024) where

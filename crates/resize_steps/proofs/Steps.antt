@@ -1,5 +1,5 @@
 -- The steps of a resize from the calls that they make. Assumes nothing.
-use mathlib.Core.Path.{_≡_, refl, sym, ap, _∙_, subst}
+use mathlib.Core.Path.{_≡_, refl, sym, ap, _∙_}
 use mathlib.Core.Bool.{Bool, true, false, cond}
 use mathlib.Core.List.{List, [], _∷_}
 use Prim.Native.Nat.{ℕ, suc, _+_, _*_, _-_, _≤_, _<_}
@@ -17,7 +17,7 @@ use Rattle.table.specs.WellFormed.{placesLegal}
 use Rattle.table.proofs.Words.{length-records}
 use Rattle.table.proofs.Facts.{places-say}
 use Rattle.table_entries.specs.declared.StayTest.{StayTest}
-use Rattle.table_entries.specs.Sums.{summed, heldSum}
+use Rattle.table_entries.specs.Sums.{lensSum, summed}
 use Rattle.table_entries.specs.Pack.{lastEnd, Packs}
 use Rattle.table_entries.proofs.Lengths.{last-within}
 use Rattle.table_records.specs.Choose.{skipping, skippingOver, evictionsOf}
@@ -88,7 +88,7 @@ module _ (room : ℕ) (sizes : List ℕ) (total : ℕ) (w : List ℕ) (p k : ℕ
   evicted-within h = omega (arith, few)
 
   pub total-skips : (m : ℕ) (skip : List ℕ) {q : StayTest} {skip′ : List ℕ} → q ≡ everything →
-      sizes ≡ summed q true zeros (entriesFrom w entriesAt m) → total ≡ heldSum 1024 (entriesFrom w entriesAt m) →
+      sizes ≡ summed q true zeros (entriesFrom w entriesAt m) → total ≡ lensSum (entriesFrom w entriesAt m) →
       skip′ ≡ skipping skip (recordsFrom w p evicted) →
       skip′ ≡ totalSkips room (recordsFrom w p k) (entriesFrom w entriesAt m) skip
   unfolding totalSkips

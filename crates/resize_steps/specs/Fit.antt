@@ -10,7 +10,7 @@ use Rattle.table.specs.declared.Entry.{Entry}
 use Rattle.table.specs.declared.TemplateRecord.{TemplateRecord}
 use Rattle.table.specs.Layout.{entriesAt}
 use Rattle.table.specs.Table.{entriesFrom, recordsFrom}
-use Rattle.table_entries.specs.Sums.{summed, heldSum}
+use Rattle.table_entries.specs.Sums.{lensSum, summed}
 use Rattle.table_entries.specs.Pack.{lastEnd, packedEntries, packedBytes}
 use Rattle.table_records.specs.Choose.{skipping, evictionsOf}
 use Rattle.pending_calls.specs.declared.removal.Removed.{Removed}
@@ -19,7 +19,7 @@ use Rattle.resize_steps.specs.Removing.{zeros, RemovesSkipped}
 
 -- how many least recent templates go until the bytes of the others are at most `room`
 abbrev pub overTotal : ℕ → List TemplateRecord → List Entry → ℕ
-overTotal room rs es = evictionsOf room (summed everything true zeros es) (heldSum 1024 es) rs
+overTotal room rs es = evictionsOf room (summed everything true zeros es) (lensSum es) rs
 
 -- all bodies of those
 unfoldable pub totalSkips : ℕ → List TemplateRecord → List Entry → List ℕ → List ℕ

@@ -7,13 +7,12 @@ ghost use Rattle.config.specs.Limits.{recordWords, entryWords};
 ghost use Rattle.table.specs.Layout.{entriesAt};
 ghost use Rattle.table.specs.Table.{entriesFrom, recordsFrom};
 ghost use Rattle.table.specs.WellFormed.{placesLegal};
-ghost use Rattle.table_entries.specs.Sums.{heldSum};
+ghost use Rattle.table_entries.specs.Sums.{lensSum};
 ghost use Rattle.resize_steps.specs.Fit.{totalSkips, FitsTotal, FitsPlaces};
 use pending_calls::Removed;
 use pending_calls::remove;
 use pending_calls::stay_all;
 use table::LABELS;
-use table_entries::held_bytes;
 use table_entries::last_end;
 use table_entries::pack_bodies;
 use table_entries::sums_by_label;
@@ -26,37 +25,37 @@ fn skip_total(
     from: usize,
     records: usize,
     entries: usize,
+    total: u64,
     room: u64,
     skip: &mut [u32; LABELS],
 )
     requires { ⌜ (entriesAt + entryWords * entries ≤ from) × (from + recordWords * records ≤ length (now words)) ⌝ }
-    requires { ⌜ heldSum 1024 (entriesFrom (now words) entriesAt entries) ≤ 18446744073709551615 ⌝ }
+    requires { ⌜ total ≡ lensSum (entriesFrom (now words) entriesAt entries) ⌝ }
     ensures { λ _.
         ⌜ now (skip .exit) ≡ totalSkips room (recordsFrom (now (words .entry)) from records)
         (entriesFrom (now (words .entry)) entriesAt entries) (now (skip .entry)) ⌝ }
 {
     let mut sizes = [0u32; LABELS];
     sums_by_label(words, entries, stay_all(), true, &mut sizes);
-    let total = held_bytes(words, entries, LABELS as u64);
     let evicted = evictions_of(words, from, records, room, total, &sizes);
     skip_records(words, from, evicted, skip);
 }
 
-// Removes least recent templates until the bytes of the others are at most `room`.
+// Removes least recent templates until the bytes of the others are at most `room`; `total` bytes are there.
 pub fn fit_total(
     words: &mut [u64],
     from: usize,
     records: usize,
     entries: usize,
+    total: u64,
     room: u64,
 ) -> Removed
     requires { ⌜ (entriesAt + entryWords * entries ≤ from) × (from + recordWords * records ≤ length (now words)) ⌝ }
-    requires { ⌜ (records ≤ 1024) × (heldSum 1024 (entriesFrom (now words) entriesAt entries)
-        ≤ 18446744073709551615) ⌝ }
+    requires { ⌜ (records ≤ 1024) × (total ≡ lensSum (entriesFrom (now words) entriesAt entries)) ⌝ }
     ensures { λ r. ⌜ FitsTotal room from records entries (now (words .entry)) (now (words .exit)) r ⌝ }
 {
     let mut skip = [0u32; LABELS];
-    skip_total(words, from, records, entries, room, &mut skip);
+    skip_total(words, from, records, entries, total, room, &mut skip);
     remove(
         words,
         from,

@@ -2,7 +2,7 @@
 // over the records, one along the index, one over the entries. The last also watches the entries that a query is about.
 ghost use mathlib.Core.Path.{_≡_};
 ghost use mathlib.Core.Bool.{_&&_};
-ghost use Prim.Native.Nat.{_+_, _*_, _<_, _≤_};
+ghost use Prim.Native.Nat.{_<_, _≤_};
 ghost use lib.ListN.{length};
 ghost use Rattle.config.specs.Limits.{headerWords, maxBodies};
 ghost use Rattle.table.specs.Layout.{limitsOf};

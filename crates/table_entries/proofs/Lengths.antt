@@ -1,33 +1,24 @@
 -- The lengths of entries, and how far their bodies reach. Assumes nothing.
-use mathlib.Core.Path.{_≡_, refl}
+use mathlib.Core.Path.{_≡_}
 use mathlib.Core.Bool.{true, false, _&&_}
-use mathlib.Core.List.{List, [], _∷_}
-use Prim.Native.Nat.{ℕ, _+_, _≤_, _<_, suc}
+use mathlib.Core.List.{List, [], _∷_, _++_}
+use Prim.Native.Nat.{ℕ, _+_, _≤_, suc}
 use native.Mathlib.Omega.{arith}
 use lib.Dec.{eqb}
 use lib.ListN.{length}
-use borrow.Author.Tests.{ne-eqb}
 use Rattle.config.proofs.Tests.{by-case}
-use Rattle.config.proofs.Lists.{All}
 use Rattle.table.specs.declared.Entry.{Entry}
-use Rattle.table.specs.Passes.{heldLen}
 use Rattle.table.proofs.Facts.{Placed}
 use Rattle.table_entries.specs.declared.StayTest.{StayTest}
 use Rattle.table_entries.specs.Stays.{stays}
-use Rattle.table_entries.specs.Sums.{labelSum, heldSum}
+use Rattle.table_entries.specs.Sums.{lensSum, labelSum}
 use Rattle.table_entries.specs.Pack.{lastEnd}
 
--- the lengths of all entries
-unfoldable pub lensSum : List Entry → ℕ
-lensSum [] = 0
-lensSum (e ∷ es) = e .len + lensSum es
-
--- where no entry has a label, all are held
-pub held-all : (out : ℕ) (es : List Entry) → All (λ e. e .label < out) es → heldSum out es ≡ lensSum es
-unfolding heldSum heldLen lensSum
-held-all out [] a = refl
-held-all out (e ∷ es) a =
-    rw (ne-eqb (e .label) out (λ d. omega (arith, a .0))) (omega (arith, held-all out es (a .1)))
+-- of entries and one more
+pub lens-more : (es : List Entry) (e : Entry) → lensSum (es ++ (e ∷ [])) ≡ lensSum es + e .len
+unfolding lensSum
+lens-more [] e = omega arith
+lens-more (x ∷ es) e = omega (arith, lens-more es e)
 
 -- no label has more bodies than there are entries, nor more bytes than there is room
 pub label-count-most : (q : StayTest) (k : ℕ) (es : List Entry) → labelSum q false k es ≤ length es

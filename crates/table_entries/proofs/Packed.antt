@@ -9,8 +9,8 @@ use Rattle.config.proofs.Lists.{All}
 use Rattle.table.specs.declared.Entry.{Entry}
 use Rattle.table.specs.Table.{tally}
 use Rattle.table.proofs.Facts.{Placed}
+use Rattle.table_entries.specs.Sums.{lensSum}
 use Rattle.table_entries.specs.Pack.{packedEntries, packedEnd}
-use Rattle.table_entries.proofs.Lengths.{lensSum}
 
 -- an entry with another place
 abbrev pub placedAt : ℕ → Entry → Entry
@@ -35,6 +35,11 @@ pub all-packed : (P : Entry → Type 0) → ((at : ℕ) (e : Entry) → P e → 
 unfolding packedEntries
 all-packed P f at [] a = tt
 all-packed P f at (e ∷ es) a = (f at e (a .0), all-packed P f (at + e .len) es (a .1))
+
+pub lens-packed : (at : ℕ) (es : List Entry) → lensSum (packedEntries at es) ≡ lensSum es
+unfolding packedEntries lensSum
+lens-packed at [] = refl
+lens-packed at (e ∷ es) = ap (λ (n : ℕ). e .len + n) (lens-packed (at + e .len) es)
 
 pub tally-packed : (k at : ℕ) (es : List Entry) → tally k (packedEntries at es) ≡ tally k es
 unfolding packedEntries

@@ -1,7 +1,7 @@
--- Sums over entries: by label, in arrays of one 32-bit number for each label, and of held lengths.
+-- Sums over entries: by label, in arrays of one 32-bit number for each label, and of lengths.
 use mathlib.Core.List.{List, [], _∷_}
 use mathlib.Core.Bool.{Bool, _&&_, cond}
-use Prim.Native.Nat.{ℕ, _+_, min}
+use Prim.Native.Nat.{ℕ, _+_, _%_, _^_, min}
 use lib.Dec.{eqb}
 use lib.ListN.{getD, set}
 use Rattle.table.specs.declared.Entry.{Entry}
@@ -31,6 +31,14 @@ summed q bytes sums (e ∷ es) =
 unfoldable pub labelSum : StayTest → Bool → ℕ → List Entry → ℕ
 labelSum q bytes k [] = 0
 labelSum q bytes k (e ∷ es) = cond (stays q e && eqb k (e .label)) (share bytes e) 0 + labelSum q bytes k es
+
+-- the lengths of all entries; and in a word, which wraps
+unfoldable pub lensSum : List Entry → ℕ
+lensSum [] = 0
+lensSum (e ∷ es) = e .len + lensSum es
+
+abbrev pub lensWord : List Entry → ℕ
+lensWord es = lensSum es % 2 ^ 64
 
 -- the lengths of all entries but those of a label
 unfoldable pub heldSum : ℕ → List Entry → ℕ

@@ -11,7 +11,9 @@ use Rattle.table.specs.Layout.{entriesAt}
 use Rattle.table.specs.Table.{entriesFrom}
 use Rattle.table.specs.Passes.{lessAt}
 use Rattle.table_entries.specs.declared.StayTest.{StayTest}
+use Rattle.table_entries.specs.declared.sweeps.Kept.{Kept}
 use Rattle.table_entries.specs.Stays.{stays}
+use Rattle.table_entries.specs.Sums.{lensWord}
 
 -- of the entries that stay by themselves, the oldest go, as many of each label as `skip` says
 unfoldable pub swept : StayTest → List ℕ → List Entry → List Entry
@@ -30,9 +32,10 @@ pub record Spends (label : ℕ) (skip skip′ : List ℕ) (r : Bool) : Type 0 wh
 unfoldable pub putEntry : List ℕ → ℕ → Entry → List ℕ
 putEntry w p e = set (set (set (set w p (e .label)) (p + 1) (e .place)) (p + 2) (e .len)) (p + 3) (e .clock)
 
--- the first m entries are swept, r of them stay; no other word changes
-pub record Sweeps (q : StayTest) (m : ℕ) (skip w w′ : List ℕ) (r : ℕ) : Type 0 where
-  pub few : r ≤ m
-  pub entries : entriesFrom w′ entriesAt r ≡ swept q skip (entriesFrom w entriesAt m)
+-- the first m entries are swept; no other word changes
+pub record Sweeps (q : StayTest) (m : ℕ) (skip w w′ : List ℕ) (r : Kept) : Type 0 where
+  pub few : r .entries ≤ m
+  pub entries : entriesFrom w′ entriesAt (r .entries) ≡ swept q skip (entriesFrom w entriesAt m)
+  pub bytes : r .bytes ≡ lensWord (swept q skip (entriesFrom w entriesAt m))
   pub head : take entriesAt w′ ≡ take entriesAt w
   pub tail : drop (entriesAt + entryWords * m) w′ ≡ drop (entriesAt + entryWords * m) w

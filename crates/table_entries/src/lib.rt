@@ -9,6 +9,7 @@ pub use pack::last_end;
 pub use pack::pack_bodies;
 pub use sums::held_bytes;
 pub use sums::sums_by_label;
+pub use sweeps::Kept;
 pub use sweeps::put_entry;
 pub use sweeps::sweep;
 

@@ -9,9 +9,16 @@ use super::StayTest;
 use super::stay::stays;
 use config::ENTRY_WORDS;
 use config::HEADER_WORDS;
+use std::num::wrapping_add_u64;
 use table::Entry;
 use table::LABELS;
 use table::entry_at;
+
+// What a sweep keeps: how many entries, and their lengths together.
+pub struct Kept {
+    pub entries: usize,
+    pub bytes: u64,
+}
 
 // Takes one off what is to be skipped of a label; whether there was one. Of a label that is none there is none.
 fn spend(skip: &mut [u32; LABELS], label: u64) -> bool
@@ -41,13 +48,14 @@ pub fn put_entry(words: &mut [u64], p: usize, entry: Entry)
     words[p + 3] = entry.clock;
 }
 
-// Keeps of the entries those that stay and are not skipped, in order; answers how many.
-pub fn sweep(words: &mut [u64], entries: usize, test: StayTest, skip: &mut [u32; LABELS]) -> usize
+// Keeps of the entries those that stay and are not skipped, in order.
+pub fn sweep(words: &mut [u64], entries: usize, test: StayTest, skip: &mut [u32; LABELS]) -> Kept
     requires { ⌜ (entriesAt + entryWords * entries ≤ length (now words)) × (length (now skip) ≡ 1024) ⌝ }
     ensures { λ r.
         ⌜ Sweeps test entries (now (skip .entry)) (now (words .entry)) (now (words .exit)) r ⌝ }
 {
     let mut kept: usize = 0;
+    let mut bytes: u64 = 0;
     let mut left = entries;
     let mut from = HEADER_WORDS;
     let mut to = HEADER_WORDS;
@@ -57,11 +65,15 @@ pub fn sweep(words: &mut [u64], entries: usize, test: StayTest, skip: &mut [u32;
             if !spend(skip, entry.label) {
                 put_entry(words, to, entry);
                 kept += 1;
+                bytes = wrapping_add_u64(bytes, entry.len);
                 to += ENTRY_WORDS;
             }
         }
         left -= 1;
         from += ENTRY_WORDS;
     }
-    kept
+    Kept {
+        entries: kept,
+        bytes,
+    }
 }

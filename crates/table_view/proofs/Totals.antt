@@ -15,7 +15,7 @@ use Rattle.table.specs.Table.{hasLabel, sumLens}
 use Rattle.table.specs.Passes.{heldLen}
 use Rattle.table.proofs.Facts.{Differ}
 use Rattle.table.proofs.Labels.{absent-holds}
-use Rattle.table_entries.specs.Sums.{heldSum}
+use Rattle.table_entries.specs.Sums.{lensSum, heldSum}
 use Rattle.cache_model.specs.Bodies.{Body, size, sumBodies, sumTemplates}
 use Rattle.pending_flows.specs.View.{bodyAt, bodiesAt, templatesAt}
 use Rattle.pending_flows.proofs.Weights.{weigh, weighAll, weighOwned, weights-agree}
@@ -57,6 +57,13 @@ pub lens-total : (b : List ℕ) (rs : List TemplateRecord) (es : List Entry) →
 lens-total b rs es d h =
     sym (templates-weigh b size es rs ∙ weights-agree (λ e. size (bodyAt b e)) rs es d ∙ owned-lens b rs es h)
 
+-- where every entry belongs to one, they are the lengths of all
+pub lens-owned : (rs : List TemplateRecord) (es : List Entry) → All (λ e. hasLabel (e .label) rs ≡ true) es →
+    lensSum es ≡ sumLens rs es
+unfolding lensSum
+lens-owned rs [] known = refl
+lens-owned rs (e ∷ es) known = rw (known .0) (omega (arith, lens-owned rs es (known .1)))
+
 -- an entry of the label out adds nothing, another its length
 pub out-adds : (out : ℕ) (e : Entry) → e .label ≡ out → heldLen out e ≡ 0
 unfolding heldLen
@@ -86,8 +93,3 @@ module _ (out : ℕ) (rs : List TemplateRecord) (other : All (λ r. out ≢ r .l
   unfolding heldSum
   held-sum-lens [] h = refl
   held-sum-lens (e ∷ es) h = omega (arith, held-len e (h .0), held-sum-lens es (h .1))
-
-  pub held-sum-total : (b : List ℕ) (es : List Entry) → Differ (λ r. r .label) rs → Within (length b) es →
-      All (λ e. e .label ≢ out → hasLabel (e .label) rs ≡ true) es →
-      heldSum out es ≡ sumTemplates size (templatesAt b es rs)
-  held-sum-total b es d w h = held-sum-lens es h ∙ lens-total b rs es d w

@@ -2,7 +2,7 @@ use native.Mathlib.Omega.{arith}
 use borrow.Author.Needs.{needs}
 use Rattle.pending_flows.proofs.Questions.{bodies-few, header-within}
 use Rattle.pending_calls.proofs.NoneRemoved.{records-few, entries-below, records-inside}
-use Rattle.pending_restore.proofs.Restores.{count-small, Settling, settling, put-back-written}
+use Rattle.pending_restore.proofs.Restores.{count-small, put-back-written}
 use Rattle.pending_restore.proofs.put_back.Statement.{statement}
 use Rattle.pending_restore.proofs.put_back.Tie as tie
 
@@ -44,21 +44,10 @@ take-back-requires c κs =
       records-few _ _ ok _ figures,
     )
 
--- what is known once what goes is taken out
-settled : (c : tie.After-take-back) → Settling (c .take-back .result .entries) (c .take-back .last .0)
-settled c =
-    let h : tie.After-records-at = c .before .before .before in
-    let s : tie.Start = start h in
-    settling _ (s .args .bytes .now) (s .pre .0) (limited h .limits-at .ensures) (figured h .figures-at .ensures)
-    (h .records-at .ensures) (c .take-back .ensures) (c .take-back .kept .0)
-
-held-bytes-requires : tie.Need-held-bytes-requires
-held-bytes-requires c κs =
-    let done = settled (c .before .before .before) in
-    (done .entries-fit, done .bytes-fit _)
-
 write-header-requires : tie.Need-write-header-requires
-write-header-requires c κs = settled (c .before .before .before .before .before) .header-fits
+write-header-requires c κs =
+    let taken : tie.After-take-back = c .before .before .before in
+    omega (arith, taken .take-back .kept .0, header-within _ _ (start (taken .before .before .before) .pre .0))
 
 same-length : tie.Need-same-length
 same-length c = search needs
@@ -66,13 +55,12 @@ same-length c = search needs
 returns : tie.Need-returns
 returns c =
     let written : tie.After-write-header = c .before .before in
-    let summed : tie.After-held-bytes = written .before .before in
-    let taken : tie.After-take-back = summed .before .before .before .before in
+    let taken : tie.After-take-back = written .before .before .before .before in
     let h : tie.After-records-at = taken .before .before .before in
     let s : tie.Start = start h in
     put-back-written _ _ _ _ (s .pre .0) (s .pre .1 .0) (s .pre .1 .1) (limited h .limits-at .ensures)
     (figured h .figures-at .ensures) (h .records-at .ensures) (taken .take-back .ensures) (taken .take-back .kept .0)
-    (summed .held-bytes .ensures) (written .write-header .ensures)
+    (written .write-header .ensures)
 
 pub put-back-spec : {M : Type 1} → statement M
 put-back-spec =
@@ -84,7 +72,6 @@ put-back-spec =
     sub-less
     cast-take-back
     take-back-requires
-    held-bytes-requires
     write-header-requires
     same-length
     returns)

@@ -9,7 +9,8 @@ nothing-goes-requires : tie.Need-nothing-goes-requires
 nothing-goes-requires c κs = ((search (entries-room, needs), search (held-room, needs)), search (id-counted, needs))
 
 remove-none-requires : tie.Need-remove-none-requires
-remove-none-requires c κs = search needs
+remove-none-requires c κs =
+    (search needs, (search needs, c .before .before .nothing-goes .ensures (search needs) .hands-none))
 
 same-length : tie.Need-same-length
 same-length c = search needs

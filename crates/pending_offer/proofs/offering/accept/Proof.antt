@@ -1,10 +1,11 @@
 use mathlib.Core.Path.{_∙_}
 use borrow.Author.Needs.{needs}
 use Rattle.pending_offer.specs.Promises.{bodyOf}
+use Rattle.pending_offer.proofs.Left.{none-handed}
 use Rattle.pending_offer.proofs.Labels.{label-room}
-use Rattle.pending_offer.proofs.Accepted.{Accepting}
+use Rattle.pending_offer.proofs.Accepted.{Accepting, total-fits}
 use Rattle.pending_offer.proofs.Accepts.{accepted-room, accepted-fewer, records-fit, entries-fit}
-use Rattle.pending_offer.proofs.Accepts.{accepted-settles, accepted-total, accepted-does}
+use Rattle.pending_offer.proofs.Accepts.{accepted-settles, accepted-does}
 use Rattle.pending_offer.proofs.offering.accept.Statement.{statement}
 use Rattle.pending_offer.proofs.offering.accept.Tie as tie
 
@@ -48,8 +49,14 @@ held-bodies-requires c κs = search needs
 
 remove-planned-requires : tie.Need-remove-planned-requires
 remove-planned-requires c κs =
-    let pre = begins (c .before .before) .pre in
-    (pre .0, ((pre .1 .0 .0, pre .1 .1 .0 .few), pre .1 .1 .0 .keeps-all))
+    let s : tie.Start = begins (c .before .before) in
+    let plans = s .pre .1 .1 .0 in (
+      s .pre .0,
+      (
+        (s .pre .1 .0 .0, plans .few),
+        (plans .keeps-all, none-handed _ _ (s .pre .0 .0) _ _ _ _ plans (s .pre .1 .0 .0)),
+      ),
+    )
 
 choose-label-requires : tie.Need-choose-label-requires
 choose-label-requires c κs =
@@ -67,24 +74,26 @@ sub-drops c =
     let added : tie.After-add-body = c .before .before .before .before in
     accepted-fewer (known (chosen added)) (held (chosen added) .held-bodies .ensures)
 
+add-total : tie.Need-add-total
+add-total c =
+    let added : tie.After-add-body = c .before .before .before .before .before in
+    record { fits = total-fits (known (chosen added)) }
+
 add-settle : tie.Need-add-settle
 add-settle c =
-    let added : tie.After-add-body = c .before .before .before .before .before .before in
+    let added : tie.After-add-body = c .before .before .before .before .before .before .before in
     record { fits = records-fit (known (chosen added)) }
 
 add-settle-2 : tie.Need-add-settle-2
 add-settle-2 c =
-    let added : tie.After-add-body = c .before .before .before .before .before .before .before in
+    let added : tie.After-add-body = c .before .before .before .before .before .before .before .before in
     record { fits = entries-fit (known (chosen added)) }
 
 settle-requires : tie.Need-settle-requires
 settle-requires c κs =
-    let added : tie.After-add-body = c .before .before .before .before .before .before .before in
-    let long = added .add-body .kept .0 ∙ known (chosen added) .long in (
-      accepted-settles (known (chosen added)) long (added .add-body .ensures),
-      accepted-total (known (chosen added)) (held (chosen added) .held-bodies .ensures) long (added .add-body .ensures)
-          (start (chosen added) .pre .1 .0 .0),
-    )
+    let added : tie.After-add-body = c .before .before .before .before .before .before .before .before in
+    accepted-settles (known (chosen added)) (added .add-body .kept .0 ∙ known (chosen added) .long)
+    (added .add-body .ensures)
 
 same-length : tie.Need-same-length
 same-length c = search needs
@@ -95,7 +104,7 @@ same-length-2 c = search needs
 returns : tie.Need-returns
 returns c =
     let settled : tie.After-settle = c .before .before in
-    let added : tie.After-add-body = settled .before .before .before .before .before .before .before .before in
+    let added : tie.After-add-body = settled .before .before .before .before .before .before .before .before .before in
     accepted-does (known (chosen added)) (held (chosen added) .held-bodies .ensures)
     (added .add-body .kept .0 ∙ known (chosen added) .long) (added .add-body .ensures)
     (start (chosen added) .pre .1 .0 .0) (settled .settle .ensures)
@@ -109,6 +118,7 @@ accept-spec =
     choose-label-requires
     add-body-requires
     sub-drops
+    add-total
     add-settle
     add-settle-2
     settle-requires

@@ -1,6 +1,6 @@
 use borrow.Author.Needs.{needs}
-use Rattle.pending_offer.proofs.Refused.{Refusing, refused-settles, refused-fewer, refused-total, drops-fit}
-use Rattle.pending_offer.proofs.Refused.{refused-does}
+use Rattle.pending_offer.proofs.Left.{none-handed}
+use Rattle.pending_offer.proofs.Refused.{Refusing, refused-settles, refused-fewer, drops-fit, refused-does}
 use Rattle.pending_offer.proofs.offering.turn_down.Statement.{statement}
 use Rattle.pending_offer.proofs.offering.turn_down.Tie as tie
 
@@ -32,8 +32,14 @@ held-bodies-requires c κs = search needs
 
 remove-planned-requires : tie.Need-remove-planned-requires
 remove-planned-requires c κs =
-    let pre = begins (c .before) .pre in
-    (pre .0, ((pre .1 .0 .0, pre .1 .1 .0 .few), pre .1 .1 .0 .keeps-all))
+    let s : tie.Start = begins (c .before) in
+    let plans = s .pre .1 .1 .0 in (
+      s .pre .0,
+      (
+        (s .pre .1 .0 .0, plans .few),
+        (plans .keeps-all, none-handed _ _ (s .pre .0 .0) _ _ _ _ plans (s .pre .1 .0 .0)),
+      ),
+    )
 
 sub-drops : tie.Need-sub-drops
 sub-drops c =
@@ -47,10 +53,8 @@ add-settle c =
 
 settle-requires : tie.Need-settle-requires
 settle-requires c κs =
-    let left : tie.After-remove-planned = c .before .before .before in (
-      refused-settles (known left),
-      refused-total (known left) (held left .held-bodies .ensures) (begins (held left) .pre .1 .0 .0),
-    )
+    let left : tie.After-remove-planned = c .before .before .before in
+    refused-settles (known left)
 
 same-length : tie.Need-same-length
 same-length c = search needs

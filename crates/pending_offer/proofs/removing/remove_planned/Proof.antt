@@ -1,10 +1,10 @@
 use borrow.Author.Needs.{needs}
-use Rattle.pending_offer.proofs.PlannedRemoval.{none-planned}
+use Rattle.pending_offer.proofs.PlannedRemoval.{none-chance, none-planned}
 use Rattle.pending_offer.proofs.removing.remove_planned.Statement.{statement}
 use Rattle.pending_offer.proofs.removing.remove_planned.Tie as tie
 
 remove-none-requires : tie.Need-remove-none-requires
-remove-none-requires c κs = search needs
+remove-none-requires c κs = search (none-chance, needs)
 
 same-length : tie.Need-same-length
 same-length c = search needs

@@ -3,9 +3,6 @@ use Rattle.pending_offer.proofs.HeldBodies.{header-settled}
 use Rattle.pending_offer.proofs.settling.settle.Statement.{statement}
 use Rattle.pending_offer.proofs.settling.settle.Tie as tie
 
-total-after-requires : tie.Need-total-after-requires
-total-after-requires c κs = search needs
-
 raised-requires : tie.Need-raised-requires
 raised-requires c κs = search needs
 
@@ -24,10 +21,4 @@ returns c = search (header-settled, needs)
 pub settle-spec : {M : Type 1} → statement M
 settle-spec =
     tie.close
-    (tie.spec
-    total-after-requires
-    raised-requires
-    raised-requires-2
-    write-header-requires
-    same-length
-    returns)
+    (tie.spec raised-requires raised-requires-2 write-header-requires same-length returns)

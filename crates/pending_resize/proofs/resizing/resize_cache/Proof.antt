@@ -1,8 +1,7 @@
 use borrow.Author.Needs.{needs}
 use Rattle.pending_flows.proofs.Questions.{header-within, bodies-few}
 use Rattle.pending_resize.proofs.Resized.{old-place}
-use Rattle.pending_resize.proofs.Resized.{handed-few, left-few, entries-within, bytes-small, left-header}
-use Rattle.pending_resize.proofs.Resized.{resizes-to}
+use Rattle.pending_resize.proofs.Resized.{handed-few, left-few, left-header, resizes-to}
 use Rattle.pending_resize.proofs.resizing.resize_cache.Statement.{statement}
 use Rattle.pending_resize.proofs.resizing.resize_cache.Tie as tie
 
@@ -19,8 +18,8 @@ figures-of handed = handed .before .before .before
 abbrev handed-of : tie.After-shrink → tie.After-handed-count
 handed-of left = left .before .before .before
 
-abbrev left-of : tie.After-held-bytes → tie.After-shrink
-left-of total = total .before .before .before .before .before .before .before
+abbrev left-of : tie.After-raised → tie.After-shrink
+left-of dropped = dropped .before .before .before .before .before .before
 
 limits-at-requires : tie.Need-limits-at-requires
 limits-at-requires c κs = search (header-within, needs)
@@ -43,20 +42,12 @@ sub-dropped c = search (handed-few, needs)
 sub-dropped-2 : tie.Need-sub-dropped-2
 sub-dropped-2 c = search (left-few, needs)
 
-held-bytes-requires : tie.Need-held-bytes-requires
-held-bytes-requires c κs =
-    let left : tie.After-shrink = c .before .before .before .before .before .before in
-    let start = start-of (at-of (figures-of (handed-of left)) .before) in (
-      entries-within _ _ _ (start .pre) _ _ _ (left .shrink .ensures),
-      bytes-small _ _ _ (start .pre) _ _ _ (left .shrink .ensures),
-    )
-
 raised-requires : tie.Need-raised-requires
 raised-requires c κs = search needs
 
 write-header-requires : tie.Need-write-header-requires
 write-header-requires c κs =
-    let left = left-of (c .before .before) in
+    let left = left-of (c .before) in
     let start = start-of (at-of (figures-of (handed-of left)) .before) in
     left-header _ _ _ (start .pre) _ _ _ (left .shrink .ensures)
 
@@ -70,15 +61,14 @@ returns : tie.Need-returns
 returns c =
     let written : tie.After-write-header = c .before .before in
     let dropped : tie.After-raised = written .before .before in
-    let total : tie.After-held-bytes = dropped .before in
-    let left = left-of total in
+    let left = left-of dropped in
     let handed = handed-of left in
     let figures = figures-of handed in
     let at = at-of figures in
     let limits : tie.After-limits-at = at .before in
     resizes-to _ _ _ (start-of limits .pre) _ _ _ (left .shrink .ensures) _ _ _ _ (limits .limits-at .ensures)
-    (at .records-at .ensures) (figures .figures-at .ensures) (handed .handed-count .ensures) _ _ _
-    (total .held-bytes .ensures) (dropped .raised .ensures) (written .write-header .ensures)
+    (at .records-at .ensures) (figures .figures-at .ensures) (handed .handed-count .ensures) _ _
+    (dropped .raised .ensures) (written .write-header .ensures)
 
 pub resize-cache-spec : {M : Type 1} → statement M
 resize-cache-spec =
@@ -91,7 +81,6 @@ resize-cache-spec =
     shrink-requires
     sub-dropped
     sub-dropped-2
-    held-bytes-requires
     raised-requires
     write-header-requires
     same-length

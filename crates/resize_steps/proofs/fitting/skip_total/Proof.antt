@@ -9,9 +9,6 @@ stay-all-requires c κs = search needs
 sums-by-label-requires : tie.Need-sums-by-label-requires
 sums-by-label-requires c κs = search needs
 
-held-bytes-requires : tie.Need-held-bytes-requires
-held-bytes-requires c κs = search needs
-
 evictions-of-requires : tie.Need-evictions-of-requires
 evictions-of-requires c κs = search needs
 
@@ -27,7 +24,6 @@ skip-total-spec =
     (tie.spec
     stay-all-requires
     sums-by-label-requires
-    held-bytes-requires
     evictions-of-requires
     skip-records-requires
     returns)

@@ -8,11 +8,11 @@ use Rattle.table_entries.proofs.sweeps.sweep.Statement.{statement}
 use Rattle.table_entries.proofs.sweeps.sweep.Tie as tie
 
 abbrev Inv-loop : tie.InvT-loop
-Inv-loop words₀ entries test skip₀ kept₀ left₀ from₀ to₀ words skip kept left from to =
-    EntriesSwept test entries skip₀ words₀ words skip kept left from to
+Inv-loop words₀ entries test skip₀ kept₀ bytes₀ left₀ from₀ to₀ words skip kept bytes left from to =
+    EntriesSwept test entries skip₀ words₀ words skip kept bytes left from to
 
 abbrev μ-loop : tie.MeasureT-loop
-μ-loop words₀ entries test skip₀ kept₀ left₀ from₀ to₀ words skip kept left from to = left
+μ-loop words₀ entries test skip₀ kept₀ bytes₀ left₀ from₀ to₀ words skip kept bytes left from to = left
 
 loop-holds : tie.Need-loop-holds Inv-loop μ-loop
 loop-holds c = search (none-swept, needs)
@@ -32,6 +32,9 @@ put-entry-requires c κs = search needs
 add-kept : tie.Need-add-kept Inv-loop μ-loop
 add-kept c = search needs
 
+wrapping-add-u64-requires : tie.Need-wrapping-add-u64-requires Inv-loop μ-loop
+wrapping-add-u64-requires c κs = search needs
+
 add-to : tie.Need-add-to Inv-loop μ-loop
 add-to c = search needs
 
@@ -47,11 +50,11 @@ loop-less c = search needs
 loop-again : tie.Need-loop-again Inv-loop μ-loop
 loop-again c =
     ⊎-elim
-    (λ v. rw (v .8 ∙ v .5 .ensures, v .9, v .10, v .11) (search (entry-kept, not-true, needs)))
+    (λ v. rw (v .9 ∙ v .5 .ensures, v .10, v .11, v .12, v .13) (search (entry-kept, not-true, needs)))
     (⊎-elim
     (λ v. let spent = not-false (v .2 .result) (v .3 .left) in
-    rw (v .4, v .5, v .6, v .7) (search (entry-skipped, v .2 .ensures, spent, needs)))
-    (λ v. rw (v .1, v .2, v .3, v .4) (search (entry-goes, needs))))
+    rw (v .4, v .5, v .6, v .7, v .8) (search (entry-skipped, v .2 .ensures, spent, needs)))
+    (λ v. rw (v .1, v .2, v .3, v .4, v .5) (search (entry-goes, needs))))
     (c .if1 .came)
 
 same-length : tie.Need-same-length Inv-loop μ-loop
@@ -72,6 +75,7 @@ sweep-spec =
     spend-requires
     put-entry-requires
     add-kept
+    wrapping-add-u64-requires
     add-to
     sub-left
     add-from
