@@ -1,7 +1,7 @@
-use Rattle.pendlist_run.proofs.OneTurn.{all-at-end, all-too-long, lines-ready}
+use Rattle.pendlist_turns.proofs.FrontReady.{all-at-end, all-too-long, lines-ready}
 use borrow.Author.Needs.{needs}
-use Rattle.pendlist_run.proofs.turns.bytes_ready.Statement.{statement}
-use Rattle.pendlist_run.proofs.turns.bytes_ready.Tie as tie
+use Rattle.pendlist_turns.proofs.bytes_ready.Statement.{statement}
+use Rattle.pendlist_turns.proofs.bytes_ready.Tie as tie
 
 returns : tie.Need-returns
 returns c = search (all-at-end, needs)

@@ -1,8 +1,8 @@
 use lib.Seq.{length-take-le}
-use Rattle.pendlist_run.proofs.OneTurn.{front-fits}
+use Rattle.pendlist_buffer.proofs.OneTurn.{front-fits}
 use borrow.Author.Needs.{needs}
-use Rattle.pendlist_run.proofs.turns.run_front.Statement.{statement}
-use Rattle.pendlist_run.proofs.turns.run_front.Tie as tie
+use Rattle.pendlist_buffer.proofs.run_front.Statement.{statement}
+use Rattle.pendlist_buffer.proofs.run_front.Tie as tie
 
 slice-aggregate-run-text : tie.Need-slice-aggregate-run-text
 slice-aggregate-run-text c = search (length-take-le, needs)

@@ -1,7 +1,7 @@
-use Rattle.pendlist_run.proofs.OneTurn.{turn-taken}
+use Rattle.pendlist_buffer.proofs.OneTurn.{turn-taken}
 use borrow.Author.Needs.{needs}
-use Rattle.pendlist_run.proofs.turns.take_turn.Statement.{statement}
-use Rattle.pendlist_run.proofs.turns.take_turn.Tie as tie
+use Rattle.pendlist_buffer.proofs.take_turn.Statement.{statement}
+use Rattle.pendlist_buffer.proofs.take_turn.Tie as tie
 
 bytes-ready-requires : tie.Need-bytes-ready-requires
 bytes-ready-requires c κs = search needs
@@ -28,7 +28,13 @@ same-length-4 : tie.Need-same-length-4
 same-length-4 c = search needs
 
 returns : tie.Need-returns
-returns c = search (turn-taken, needs)
+returns c =
+    let moved : tie.After-move-bytes = search needs in
+    let run : tie.After-run-front = search needs in
+    let counted : tie.After-bytes-ready = search needs in
+    let start : tie.Start = search needs in
+    turn-taken _ _ _ _ (start .pre .0) (start .pre .1) (counted .bytes-ready .ensures) (run .run-front .ensures)
+    (moved .move-bytes .ensures)
 
 pub take-turn-spec : {M : Type 1} → statement M
 take-turn-spec =

@@ -21,7 +21,7 @@ use Rattle.cache_model.specs.Reply.{opening}
 use Rattle.pendlist_rows.specs.Text.{placesFrom, decimalOf, numbersText}
 use Rattle.pendlist_calls.specs.Steps.{rowAfter, stepOf}
 use Rattle.pendlist_texts.specs.Lists.{afterLines, rowsOf}
-use Rattle.pendlist_run.specs.Turns.{readyOf, turnOf, nextTurn, turnsOf, inputTurns}
+use Rattle.pendlist_turns.specs.Turns.{readyOf, turnOf, nextTurn, turnsOf, inputTurns}
 
 -- what the turns of these reads write, in the program's areas, which hold no cache at first
 abbrev written : List String → List ℕ

@@ -2,46 +2,16 @@
 use mathlib.Core.Path.{_≡_, sym, ap, _∙_}
 use mathlib.Core.Bool.{Bool}
 use mathlib.Core.List.{List, _++_}
-use Prim.Native.Nat.{ℕ, _+_, _*_, _-_, _≤_, _<_}
+use Prim.Native.Nat.{ℕ, _+_, _*_, _-_, _≤_}
 use native.Mathlib.Omega.{arith}
 use lib.ListN.{length, take, drop, length-drop}
 use lib.Seq.{length-take-le, take-take, take-add, take-at, drop-at}
-use borrow.Author.Tests.{eq-eqb, ne-eqb, le-leb, lt-leb}
 use Rattle.areas.specs.Overwrite.{moved}
-use Rattle.pendlist_lines.specs.Input.{wholeLines}
 use Rattle.pending_flows.specs.View.{Areas}
 use Rattle.pendlist_texts.specs.declared.TextDone.{TextDone}
 use Rattle.pendlist_texts.specs.Lists.{RunsText}
-use Rattle.pendlist_run.specs.Turns.{readyOf, turnOf, Ready, TakesTurn}
-
--- What is ready of the buffer's first n bytes.
-module _ (buffer : List ℕ) (kept n : ℕ) (h : n ≤ length buffer) where
-  pub all-at-end : n ≡ kept → Ready buffer kept n n
-  unfolding readyOf
-  all-at-end e = record {
-    count = rw (eq-eqb n kept e) (sym (length-take-le n buffer h));
-    among = omega arith;
-    few-left = omega arith;
-  }
-
-  module _ {lines : ℕ} (more : n ≡ kept → ⊥) (counted : lines ≡ wholeLines (take n buffer)) where
-    pub all-too-long : 255 < n - lines → Ready buffer kept n n
-    unfolding readyOf
-    all-too-long long = record {
-      count =
-          rw (ne-eqb n kept more, ← counted, length-take-le n buffer h, lt-leb (n - lines) 255 long);
-      among = omega arith;
-      few-left = omega arith;
-    }
-
-    pub lines-ready : lines ≤ n → n - lines ≤ 255 → Ready buffer kept n lines
-    unfolding readyOf
-    lines-ready among short = record {
-      count =
-          rw (ne-eqb n kept more, ← counted, length-take-le n buffer h, le-leb (n - lines) 255 short);
-      among = among;
-      few-left = short;
-    }
+use Rattle.pendlist_turns.specs.Turns.{turnOf, Ready}
+use Rattle.pendlist_buffer.specs.Buffer.{TakesTurn}
 
 -- the rows of the buffer's first n bytes have room
 pub front-fits : (n : ℕ) (buffer out : List ℕ) → n ≤ length buffer → n ≤ 4096 → length out ≡ 438272 →

@@ -14,14 +14,11 @@ use Rattle.pendlist_lines.proofs.Ends.{first-of-lines}
 use Rattle.pendlist_lines.proofs.Cuts.{lines-parted, rest-in-first}
 use Rattle.pendlist_lines.proofs.Lines.{too-long}
 use Rattle.cache_model.specs.Cache.{Cache}
-use Rattle.pending_flows.specs.View.{Areas, view}
 use Rattle.pendlist_rows.specs.Text.{outcomeText}
 use Rattle.pendlist_calls.specs.Steps.{Step, stepOf}
-use Rattle.pendlist_run.specs.declared.program.Ended.the-variants as Ends
-use Rattle.pendlist_texts.specs.Lists.{isBad, ListState, lineStep, afterLines, rowsOf, afterText}
-use Rattle.pendlist_run.specs.Turns.{readyOf, Standing, begun, withTurn, turnOf, nextTurn, turnsOf}
-use Rattle.pendlist_run.specs.Turns.{inputTurns, joined}
-use Rattle.pendlist_run.specs.Program.{turnsIn, RunsInput}
+use Rattle.pendlist_texts.specs.Lists.{isBad, ListState, lineStep, afterLines, rowsOf}
+use Rattle.pendlist_turns.specs.Turns.{readyOf, Standing, begun, withTurn, turnOf, nextTurn, turnsOf}
+use Rattle.pendlist_turns.specs.Turns.{inputTurns, joined}
 
 -- What lines come to, and what is written of them.
 record Carried : Type 0 where
@@ -255,28 +252,3 @@ module _ (bytes words : ℕ) where
           ≡ afterLines bytes words (linesOf (joined reads ++ rest)) false v
       unfolding so-far carried
       after-bad = ap (λ (c : Carried). c .after) bad-carried
-
--- What the program's end says of the list that it read: of all its lines, or of those up to `bad`.
-list-read : (a : Areas) (last : Bool) (reads : List (List ℕ)) →
-    (last ≡ false → turnsIn a last reads .after .bad ≡ true) →
-    turnsIn a last reads .after ≡ afterText false (joined reads) a
-list-read a true reads ended = after-input (length (a .bytes)) (length (a .words)) reads (view a)
-list-read a false reads ended =
-    rw append-nil at (after-bad (length (a .bytes)) (length (a .words)) reads (view a) (ended refl) [])
-
-module _ {a a′ : Areas} where
-  pub whole-list : (run : RunsInput a Ends.Input a′) →
-      (afterText false (joined (run .reads)) a .bad ≡ false)
-      × (view a′ ≡ afterText false (joined (run .reads)) a .holds)
-  whole-list run =
-      let all : turnsIn a (run .last) (run .reads) .after ≡ afterText false (joined (run .reads)) a =
-      list-read a (run .last) (run .reads) (λ e. cc (run .ends .0)) in
-      (sym (ap (λ (k : ListState). k .bad) all) ∙ run .ends .1, run .holds ∙ ap (λ (k : ListState). k .holds) all)
-
-  pub bad-list : (run : RunsInput a Ends.Bad a′) →
-      (afterText false (joined (run .reads)) a .bad ≡ true)
-      × (view a′ ≡ afterText false (joined (run .reads)) a .holds)
-  bad-list run =
-      let all : turnsIn a (run .last) (run .reads) .after ≡ afterText false (joined (run .reads)) a =
-      list-read a (run .last) (run .reads) (λ e. run .ends) in
-      (sym (ap (λ (k : ListState). k .bad) all) ∙ run .ends, run .holds ∙ ap (λ (k : ListState). k .holds) all)

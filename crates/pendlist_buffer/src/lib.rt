@@ -2,15 +2,13 @@
 ghost use mathlib.Core.Path.{_≡_};
 ghost use Prim.Native.Nat.{_≤_};
 ghost use lib.ListN.{length, take};
-ghost use Rattle.pendlist_lines.specs.Input.{wholeLines};
 ghost use Rattle.pending_flows.specs.View.{areasOf};
 ghost use Rattle.pendlist_texts.specs.Lists.{RunsText};
-ghost use Rattle.pendlist_run.specs.Turns.{Ready, TakesTurn};
+ghost use Rattle.pendlist_buffer.specs.Buffer.{TakesTurn};
 use areas::move_bytes;
-use pendlist_lines::MAX_LINE;
-use pendlist_lines::whole_lines;
 use pendlist_texts::TextDone;
 use pendlist_texts::run_text;
+use pendlist_turns::bytes_ready;
 
 // What a turn leaves.
 pub struct Turn {
@@ -22,30 +20,6 @@ pub struct Turn {
     pub bad: bool,
     // the bytes of the rows
     pub filled: usize,
-}
-
-// How many of the buffer's first n bytes are whole lines.
-fn lines_among(buffer: &[u8], n: usize) -> usize
-    requires { ⌜ n ≤ length (now buffer) ⌝ }
-    ensures { λ r. ⌜ (r ≡ wholeLines (take n (now (buffer .entry)))) × (r ≤ n) ⌝ }
-{
-    whole_lines(&buffer[..n])
-}
-
-// How many of the buffer's first n bytes are carried out, where `kept` of them were there before: the whole lines; all
-// where no byte has come, since the input has ended, or where what follows the whole lines is too long for a line.
-fn bytes_ready(buffer: &[u8], kept: usize, n: usize) -> usize
-    requires { ⌜ n ≤ length (now buffer) ⌝ }
-    ensures { λ r. ⌜ Ready (now (buffer .entry)) kept n r ⌝ }
-{
-    if n == kept {
-        return n;
-    }
-    let lines = lines_among(buffer, n);
-    if MAX_LINE < n - lines {
-        return n;
-    }
-    lines
 }
 
 // Carries out the lines among the buffer's first n bytes.

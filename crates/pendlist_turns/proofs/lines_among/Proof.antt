@@ -1,8 +1,8 @@
 use lib.Seq.{length-take-le}
 use Rattle.pendlist_lines.proofs.Ends.{whole-among}
 use borrow.Author.Needs.{needs}
-use Rattle.pendlist_run.proofs.turns.lines_among.Statement.{statement}
-use Rattle.pendlist_run.proofs.turns.lines_among.Tie as tie
+use Rattle.pendlist_turns.proofs.lines_among.Statement.{statement}
+use Rattle.pendlist_turns.proofs.lines_among.Tie as tie
 
 slice-aggregate-whole-lines : tie.Need-slice-aggregate-whole-lines
 slice-aggregate-whole-lines c = search (length-take-le, needs)
