@@ -3,7 +3,7 @@ use mathlib.Core.Path.{sym}
 use mathlib.Core.Logic.{⊎-elim}
 use native.Mathlib.Omega.{arith}
 use borrow.Author.Needs.{needs}
-use Rattle.output_scan.proofs.Fields.{tail-length}
+use Rattle.output_fields.proofs.Tails.{tail-length}
 use Rattle.output_scan.proofs.Least.{too-short}
 use Rattle.output_scan.proofs.Records.{cut-field, stopped, at-limit, fewer-left}
 use Rattle.output_scan.proofs.Alone.{Stepped, short-step, long-step, AlonePassed, none-alone, alone-passed}

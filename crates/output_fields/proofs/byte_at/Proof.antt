@@ -1,8 +1,8 @@
 use native.Mathlib.Omega.{arith}
 use mathlib.Core.Path.{refl}
 use borrow.Author.Needs.{needs}
-use Rattle.output_scan.proofs.byte_at.Statement.{statement}
-use Rattle.output_scan.proofs.byte_at.Tie as tie
+use Rattle.output_fields.proofs.byte_at.Statement.{statement}
+use Rattle.output_fields.proofs.byte_at.Tie as tie
 
 shared-slice-read-result : tie.Need-shared-slice-read-result
 shared-slice-read-result c = search needs

@@ -4,8 +4,8 @@ use mathlib.Core.List.{List, [], _∷_}
 use Prim.Native.Nat.{ℕ, _+_}
 use Rattle.wire.specs.declared.Reading.the-variants.{IpfixVariable}
 use Rattle.wire.specs.Size.{isVariable}
-use Rattle.output_scan.specs.declared.Layout.{Layout}
-use Rattle.output_scan.specs.declared.Layout.the-variants.{Fixed, One, Several}
+use Rattle.output_fields.specs.declared.Layout.{Layout}
+use Rattle.output_fields.specs.declared.Layout.the-variants.{Fixed, One, Several}
 
 -- at least one does
 unfoldable pub hasVariable : List ℕ → Bool

@@ -1,9 +1,9 @@
 use borrow.Author.Needs.{needs}
 use Prim.Native.Nat.{_-_}
 use lib.ListN.{length}
-use Rattle.output_scan.proofs.Layouts.{NonePassed, none-passed, plain-passed, one-found, none-found}
-use Rattle.output_scan.proofs.has_variable.Statement.{statement}
-use Rattle.output_scan.proofs.has_variable.Tie as tie
+use Rattle.output_fields.proofs.Widths.{NonePassed, none-passed, plain-passed, one-found, none-found}
+use Rattle.output_fields.proofs.has_variable.Statement.{statement}
+use Rattle.output_fields.proofs.has_variable.Tie as tie
 
 abbrev Inv-loop : tie.InvT-loop
 Inv-loop widths i₀ i = NonePassed widths i

@@ -3,9 +3,9 @@ use mathlib.Core.Path.{refl}
 use native.Mathlib.Omega.{arith}
 use Prim.Native.Nat.{_-_}
 use lib.ListN.{length}
-use Rattle.output_scan.proofs.Layouts.{LeadPassed, no-lead, lead-passed, several-found, one-alone, all-fixed}
-use Rattle.output_scan.proofs.layout_of.Statement.{statement}
-use Rattle.output_scan.proofs.layout_of.Tie as tie
+use Rattle.output_fields.proofs.Widths.{LeadPassed, no-lead, lead-passed, several-found, one-alone, all-fixed}
+use Rattle.output_fields.proofs.layout_of.Statement.{statement}
+use Rattle.output_fields.proofs.layout_of.Tie as tie
 
 abbrev Inv-loop : tie.InvT-loop
 Inv-loop widths lead₀ i₀ lead i = LeadPassed widths lead i
