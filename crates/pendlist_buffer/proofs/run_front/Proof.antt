@@ -9,7 +9,7 @@ slice-aggregate-run-text c = search (length-take-le, needs)
 
 run-text-requires : tie.Need-run-text-requires
 run-text-requires c κs =
-    let start : tie.Start = c .before .before .before .before .before .before .before .before in
+    let start : tie.Start = search needs in
     front-fits (start .args .n) (start .args .buffer .now) (start .args .out .now) (start .pre .0) (start .pre .1)
     (start .pre .2)
 
