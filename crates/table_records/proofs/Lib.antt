@@ -17,3 +17,4 @@ pub mod ClosedIndex
 pub mod Places
 pub mod MovesUp
 pub mod Taken
+pub mod Whole

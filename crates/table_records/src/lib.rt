@@ -2,6 +2,7 @@
 mod adding;
 mod choosing;
 mod closing;
+mod keeping;
 mod sums;
 mod taking;
 
@@ -13,6 +14,7 @@ pub use choosing::live_records;
 pub use choosing::skip_over;
 pub use choosing::skip_records;
 pub use closing::close;
+pub use keeping::count_whole;
 pub use sums::set_sum;
 pub use sums::sum_of;
 pub use taking::place_of;

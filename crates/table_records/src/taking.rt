@@ -89,7 +89,7 @@ fn lower_index(words: &mut [u64], from: usize, records: usize, at: usize)
 }
 
 // A record's count as a sum by label, which stops at the largest 32-bit number.
-fn capped_count(count: u64) -> u32
+pub fn capped_count(count: u64) -> u32
     ensures { λ r. ⌜ r ≡ cappedCount count ⌝ }
 {
     if 4294967295 < count {
