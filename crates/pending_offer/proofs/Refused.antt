@@ -121,5 +121,6 @@ module _ {w b : List ℕ} {l′ : PendingFlowsConfig} {i : ℕ} {body : List ℕ
     refused-does figures written =
         settled-does w b (known .ok) i x (known .small) verdict w₁ b (left .records) (left .entries)
         (h - left .entries + 1) (left .bytes) rows placed held-left
-        (left-bytes w b (known .ok) i clock (length body) 1024 (known .plans) (known .removed)) (omega (arith, counted)) refl (known .long) (known .limits)
-        figures written refl (left-behind w b (known .ok) i clock (length body) 1024 (known .plans) (known .removed))
+        (left-bytes w b (known .ok) i clock (length body) 1024 (known .plans) (known .removed)) (omega (arith, counted))
+        refl (known .long) (known .limits) figures written refl
+        (left-behind w b (known .ok) i clock (length body) 1024 (known .plans) (known .removed))

@@ -9,11 +9,13 @@ ghost use Rattle.pending_flows.specs.Header.{figuresAt};
 ghost use Rattle.pending_calls.specs.Removal.{Removes};
 ghost use Rattle.offer_plan.specs.Plan.{planTest, skipOf, KeepsAll};
 use config::PendingFlowsConfig;
+use config::Ttl;
 use offer_plan::OfferPlan;
 use offer_plan::skip_planned;
 use pending_calls::Removed;
 use pending_calls::remove;
 use pending_calls::remove_none;
+use pending_calls::remove_whole;
 use pending_flows::HeaderFigures;
 use table::LABELS;
 use table::records_at;
@@ -33,7 +35,8 @@ fn stay_test(limits: PendingFlowsConfig, clock: u64, plan: OfferPlan) -> StayTes
     }
 }
 
-// Sweeps by the plan, and closes. The record of the label `apart` goes though its bodies stay.
+// Sweeps by the plan, and closes. The record of the label `apart` goes though its bodies stay. With no time to live,
+// only whole templates go.
 fn remove_some(
     words: &mut [u64],
     bytes: &[u8],
@@ -50,16 +53,19 @@ fn remove_some(
         (heldCount (now (words .entry)) + chanceCount (now (words .entry))) (entryCount (now (words .entry))) apart
         (skipOf (now (words .entry)) plan) (now (words .entry)) (now (words .exit)) r ⌝ }
 {
-    let records = (figures.templates + figures.chance) as usize;
-    let test = stay_test(limits, clock, plan);
     let mut skip = [0u32; LABELS];
     skip_planned(words, bytes, limits, figures, plan, &mut skip);
+    let ttl = limits.ttl;
+    let Ttl::After(_) = ttl else {
+        return remove_whole(words, bytes, limits, figures, &mut skip, apart);
+    };
+    let records = (figures.templates + figures.chance) as usize;
     remove(
         words,
         records_at(limits),
         records,
         figures.entries as usize,
-        test,
+        stay_test(limits, clock, plan),
         &mut skip,
         apart,
     )
