@@ -23,8 +23,8 @@ use Rattle.pending_calls.specs.Promises.{Does}
 use Rattle.pending_calls.proofs.Removed.{TiedRows}
 use Rattle.offer_plan.specs.declared.plan.OfferPlan.{OfferPlan}
 use Rattle.pending_offer.specs.Promises.{bodyOf}
-use Rattle.pending_offer.specs.Room.{RoomFor, AddsBody}
-use Rattle.pending_offer.specs.Settle.{settledFigures}
+use Rattle.offer_steps.specs.Room.{RoomFor, AddsBody}
+use Rattle.offer_steps.specs.Settle.{settledFigures}
 use Rattle.pending_offer.proofs.Settled.{outcome, drops-counted, settled-does}
 use Rattle.pending_offer.proofs.Left.{left-behind}
 use Rattle.pending_offer.proofs.Outcomes.{accepted-verdict}

@@ -30,8 +30,8 @@ use Rattle.pending_calls.proofs.Removed.{TiedRows}
 use Rattle.offer_plan.specs.declared.plan.OfferPlan.{OfferPlan}
 use Rattle.offer_plan.specs.Plan.{planTest, skipOf, Plans}
 use Rattle.pending_offer.specs.Promises.{bodyOf}
-use Rattle.pending_offer.specs.Settle.{settledFigures}
-use Rattle.pending_offer.proofs.HeldBodies.{held-most}
+use Rattle.offer_steps.specs.Settle.{settledFigures}
+use Rattle.offer_steps.proofs.HeldBodies.{held-most}
 use Rattle.pending_offer.proofs.Settled.{outcome, drops-counted, settled-does}
 use Rattle.pending_offer.proofs.Left.{held-legal, left-rows, left-placed, left-bytes, left-entries}
 use Rattle.pending_offer.proofs.Left.{left-records, left-behind, staying, bodies-left, templates-left}

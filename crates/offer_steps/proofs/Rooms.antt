@@ -22,7 +22,7 @@ use Rattle.table_entries.proofs.Frames.{entries-below, entries-more, take-put, 
 use Rattle.table_entries.proofs.Packed.{packed-placed, lens-packed}
 use Rattle.pending_flows.specs.View.{bodiesAt}
 use Rattle.table_view.proofs.Packed.{packed-long, packed-bodies, packed-drop}
-use Rattle.pending_offer.specs.Room.{fitsBehind, roomEntries, roomBytes, roomPlace, MakesRoom, StoresBody}
+use Rattle.offer_steps.specs.Room.{fitsBehind, roomEntries, roomBytes, roomPlace, MakesRoom, StoresBody}
 
 module _ (most : ℕ) (es : List Entry) (legal : placesLegal 0 most es ≡ true) where
   last-legal : lastEnd es ≤ most

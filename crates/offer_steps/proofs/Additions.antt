@@ -17,8 +17,8 @@ use Rattle.table_entries.proofs.Frames.{entries-below}
 use Rattle.table_records.specs.Add.{Adds}
 use Rattle.table_records.specs.Choose.{FreeLabel}
 use Rattle.table_records.proofs.Frames.{records-above, index-above}
-use Rattle.pending_offer.specs.Room.{MakesRoom, entryOf, StoresBody, RoomFor, AddsBody, ChoosesLabel}
-use Rattle.pending_offer.proofs.Rooms.{room-made}
+use Rattle.offer_steps.specs.Room.{MakesRoom, entryOf, StoresBody, RoomFor, AddsBody, ChoosesLabel}
+use Rattle.offer_steps.proofs.Rooms.{room-made}
 
 -- the label that is chosen
 pub label-kept : (label : ℕ) (rs : List TemplateRecord) → label < 1024 → ChoosesLabel label rs label

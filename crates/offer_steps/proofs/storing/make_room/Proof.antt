@@ -1,7 +1,7 @@
 use borrow.Author.Needs.{needs}
-use Rattle.pending_offer.proofs.Rooms.{last-small, end-fits, legal-wider, room-behind, room-packed}
-use Rattle.pending_offer.proofs.storing.make_room.Statement.{statement}
-use Rattle.pending_offer.proofs.storing.make_room.Tie as tie
+use Rattle.offer_steps.proofs.Rooms.{last-small, end-fits, legal-wider, room-behind, room-packed}
+use Rattle.offer_steps.proofs.storing.make_room.Statement.{statement}
+use Rattle.offer_steps.proofs.storing.make_room.Tie as tie
 
 last-end-requires : tie.Need-last-end-requires
 last-end-requires c κs = search (last-small, needs)

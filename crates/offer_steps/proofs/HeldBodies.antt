@@ -17,7 +17,7 @@ use Rattle.pending_flows.specs.declared.header.HeaderFigures.{HeaderFigures}
 use Rattle.pending_flows.specs.Header.{figuresAt, headerOf}
 use Rattle.pending_flows.proofs.Figures.{handed-few}
 use Rattle.pending_flows.proofs.Figures.{bodies-read, held-counted}
-use Rattle.pending_offer.specs.Settle.{settledFigures}
+use Rattle.offer_steps.specs.Settle.{settledFigures}
 
 module _ (w b : List ℕ) (ok : wellFormed w (length b) ≡ true) (f : HeaderFigures) (is : f ≡ figuresAt w) where
   -- h bodies are handed out

@@ -1,7 +1,7 @@
 use borrow.Author.Needs.{needs}
-use Rattle.pending_offer.proofs.Additions.{label-kept, label-free}
-use Rattle.pending_offer.proofs.storing.choose_label.Statement.{statement}
-use Rattle.pending_offer.proofs.storing.choose_label.Tie as tie
+use Rattle.offer_steps.proofs.Additions.{label-kept, label-free}
+use Rattle.offer_steps.proofs.storing.choose_label.Statement.{statement}
+use Rattle.offer_steps.proofs.storing.choose_label.Tie as tie
 
 returns : tie.Need-returns
 returns c = search (label-kept, needs)

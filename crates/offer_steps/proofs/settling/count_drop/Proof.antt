@@ -1,6 +1,6 @@
 use borrow.Author.Needs.{needs}
-use Rattle.pending_offer.proofs.settling.count_drop.Statement.{statement}
-use Rattle.pending_offer.proofs.settling.count_drop.Tie as tie
+use Rattle.offer_steps.proofs.settling.count_drop.Statement.{statement}
+use Rattle.offer_steps.proofs.settling.count_drop.Tie as tie
 
 slice-read-raised : tie.Need-slice-read-raised
 slice-read-raised c = search needs

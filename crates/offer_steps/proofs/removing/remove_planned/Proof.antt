@@ -1,7 +1,7 @@
 use borrow.Author.Needs.{needs}
-use Rattle.pending_offer.proofs.PlannedRemoval.{none-chance, none-planned}
-use Rattle.pending_offer.proofs.removing.remove_planned.Statement.{statement}
-use Rattle.pending_offer.proofs.removing.remove_planned.Tie as tie
+use Rattle.offer_steps.proofs.PlannedRemoval.{none-chance, none-planned}
+use Rattle.offer_steps.proofs.removing.remove_planned.Statement.{statement}
+use Rattle.offer_steps.proofs.removing.remove_planned.Tie as tie
 
 remove-none-requires : tie.Need-remove-none-requires
 remove-none-requires c κs = search (none-chance, needs)

@@ -1,7 +1,7 @@
 use borrow.Author.Needs.{needs}
-use Rattle.pending_offer.proofs.HeldBodies.{handed-fewer, held-rest}
-use Rattle.pending_offer.proofs.settling.held_bodies.Statement.{statement}
-use Rattle.pending_offer.proofs.settling.held_bodies.Tie as tie
+use Rattle.offer_steps.proofs.HeldBodies.{handed-fewer, held-rest}
+use Rattle.offer_steps.proofs.settling.held_bodies.Statement.{statement}
+use Rattle.offer_steps.proofs.settling.held_bodies.Tie as tie
 
 handed-count-requires : tie.Need-handed-count-requires
 handed-count-requires c κs = search needs

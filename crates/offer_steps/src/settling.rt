@@ -12,7 +12,7 @@ ghost use Rattle.cache_model.specs.Bodies.{allBodies};
 ghost use Rattle.cache_model.specs.Cache.{raised};
 ghost use Rattle.pending_flows.specs.Header.{droppedAt, figuresAt, headerOf};
 ghost use Rattle.pending_flows.specs.View.{cacheOf};
-ghost use Rattle.pending_offer.specs.Settle.{settledFigures};
+ghost use Rattle.offer_steps.specs.Settle.{settledFigures};
 use config::PendingFlowsConfig;
 use pending_calls::raised;
 use pending_flows::HeaderFigures;

@@ -1,7 +1,7 @@
 use borrow.Author.Needs.{needs}
-use Rattle.pending_offer.proofs.HeldBodies.{header-settled}
-use Rattle.pending_offer.proofs.settling.settle.Statement.{statement}
-use Rattle.pending_offer.proofs.settling.settle.Tie as tie
+use Rattle.offer_steps.proofs.HeldBodies.{header-settled}
+use Rattle.offer_steps.proofs.settling.settle.Statement.{statement}
+use Rattle.offer_steps.proofs.settling.settle.Tie as tie
 
 raised-requires : tie.Need-raised-requires
 raised-requires c κs = search needs

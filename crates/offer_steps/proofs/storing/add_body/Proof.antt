@@ -1,7 +1,7 @@
 use borrow.Author.Needs.{needs}
-use Rattle.pending_offer.proofs.Additions.{body-within, still-rises, body-added}
-use Rattle.pending_offer.proofs.storing.add_body.Statement.{statement}
-use Rattle.pending_offer.proofs.storing.add_body.Tie as tie
+use Rattle.offer_steps.proofs.Additions.{body-within, still-rises, body-added}
+use Rattle.offer_steps.proofs.storing.add_body.Statement.{statement}
+use Rattle.offer_steps.proofs.storing.add_body.Tie as tie
 
 make-room-requires : tie.Need-make-room-requires
 make-room-requires c κs = search needs

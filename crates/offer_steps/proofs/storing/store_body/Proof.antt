@@ -1,7 +1,7 @@
 use borrow.Author.Needs.{needs}
-use Rattle.pending_offer.proofs.Rooms.{body-stored}
-use Rattle.pending_offer.proofs.storing.store_body.Statement.{statement}
-use Rattle.pending_offer.proofs.storing.store_body.Tie as tie
+use Rattle.offer_steps.proofs.Rooms.{body-stored}
+use Rattle.offer_steps.proofs.storing.store_body.Statement.{statement}
+use Rattle.offer_steps.proofs.storing.store_body.Tie as tie
 
 mul-put-entry : tie.Need-mul-put-entry
 mul-put-entry c = search needs
