@@ -43,12 +43,15 @@ fn pack(entries: &mut [Entry], bytes: &mut [u8], gap: usize) -> usize {
 
 fn evict(entries: &mut [Entry]) -> usize {
     let mut kept = 0;
+    let first = entries.as_mut_ptr();
     for at in 0..entries.len() {
-        let entry = entries[at];
-        if entry[LABEL] != EVICTED {
-            // SAFETY: no more are kept than were passed.
-            unsafe { *entries.get_unchecked_mut(kept) = entry };
-            kept += 1;
+        // SAFETY: both places lie among the entries, as no more are kept than were passed.
+        unsafe {
+            let entry = first.add(at);
+            if (*entry)[LABEL] != EVICTED {
+                ptr::copy(entry, first.add(kept), 1);
+                kept += 1;
+            }
         }
     }
     kept
