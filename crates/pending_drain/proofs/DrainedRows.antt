@@ -16,6 +16,7 @@ use Rattle.config.proofs.Lists.{All, all-map, all-both, all-front, all-back}
 use Rattle.table.specs.declared.Entry.{Entry}
 use Rattle.table.specs.declared.TemplateRecord.{TemplateRecord}
 use Rattle.table.specs.Table.{hasLabel, tally}
+use Rattle.table.specs.Reads.{liveLens}
 use Rattle.table.proofs.Facts.{Differ, differ-front}
 use Rattle.table.proofs.Labels.{own-labels, labels-apart}
 use Rattle.table.proofs.FoundLabels.{labelFor, found-has, found-alone}
@@ -26,7 +27,7 @@ use Rattle.table_records.specs.Close.{closed}
 use Rattle.table_records.specs.Choose.{skipAll, skipping}
 use Rattle.table_records.proofs.Skips.{length-skipping, skipping-at}
 use Rattle.table_records.proofs.Closed.{closed-all}
-use Rattle.cache_model.specs.Bodies.{Body, Template, expired, keep, bodiesOf, without}
+use Rattle.cache_model.specs.Bodies.{Body, Template, size, expired, keep, bodiesOf, sumBodies, without}
 use Rattle.cache_model.proofs.Parts as Parts
 use Rattle.cache_model.proofs.Parts.{length-without}
 use Rattle.cache_model.proofs.Lists.{length-part}
@@ -37,6 +38,7 @@ use Rattle.pending_flows.proofs.Templates.{found-bodies}
 use Rattle.table_view.proofs.Tied.{Tied, entries-small, none-above}
 use Rattle.table_view.proofs.Swept.{bodyStays, Within, swept-bodies}
 use Rattle.table_view.proofs.Removed.{labelCounts, labelCountsBut, label-counts, none-set}
+use Rattle.table_view.proofs.Totals.{live-lens}
 use Rattle.table_view.proofs.Closed.{Left, closed-templates, closed-append, closed-none}
 use Rattle.table_view.proofs.Summed.{lenMost}
 use Rattle.pending_drain.specs.Handing.{zeros, unexpired}
@@ -211,6 +213,12 @@ module _ (b : List ℕ) (ttl : Ttl) (i now : ℕ) (held handed : List TemplateRe
     -- as many as are counted
     pub drained-count : tally label left ≡ length live
     drained-count = sym (length-bodies b label left) ∙ ap length drained-live
+
+    -- and as long
+    pub drained-lens : sumBodies size (bodiesAt b label left) ≡ liveLens ttl now label es
+    drained-lens =
+        ap (sumBodies size) (drained-live ∙ ap (keep (λ x. not (expired ttl now x))) bodies-of)
+        ∙ sym (live-lens b ttl now label es within)
 
     -- a body that is left has a label
     pub drained-small : 0 < tally label left → label < 1024

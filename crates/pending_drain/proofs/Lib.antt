@@ -5,7 +5,6 @@ pub mod Written
 pub mod LegalRows
 pub mod TakenOut
 pub mod HandedRows
-pub mod HeldTotals
 pub mod Drained
 pub mod AsRead
 pub mod NoneTaken

@@ -7,10 +7,8 @@ use Prim.Native.Nat.{ℕ, _+_, _*_, _<_}
 use lib.ListN.{replicate}
 use Rattle.config.specs.declared.Ttl.{Ttl}
 use Rattle.config.specs.Limits.{recordWords}
-use Rattle.table.specs.declared.Entry.{Entry}
 use Rattle.table.specs.declared.TemplateRecord.{TemplateRecord}
-use Rattle.table.specs.Table.{recordsFrom, tally}
-use Rattle.table.specs.Reads.{liveCount}
+use Rattle.table.specs.Table.{recordsFrom}
 use Rattle.table_entries.specs.declared.StayTest.{StayTest}
 use Rattle.table_records.specs.Add.{Adds}
 use Rattle.table_records.specs.Choose.{skipping}
@@ -39,10 +37,10 @@ TakesOut ttl clock label p f w w′ r =
     let skip = skipping zeros (recordsFrom w (p + recordWords * f .templates) (f .chance)) in
     Removes q p (f .templates + f .chance) (f .entries) label skip w w′ r
 
--- nothing is handed out already, and no body of the label is expired
-pub record NothingGoes (ttl : Ttl) (clock label chance : ℕ) (es : List Entry) : Type 0 where
+-- nothing is handed out already, and as many bodies are live as a record counts
+pub record NothingGoes (chance count live : ℕ) : Type 0 where
   pub hands-none : chance ≡ 0
-  pub all-live : liveCount ttl clock label es ≡ tally label es
+  pub all-live : count ≡ live
 
 -- the record of what is handed out stands behind k held ones, where there is a body; chance: whether there is
 pub record HandsOut (p k : ℕ) (t : TemplateRecord) (w w′ : List ℕ) (chance : ℕ) : Type 0 where

@@ -1,12 +1,12 @@
 use borrow.Author.Needs.{needs}
-use Rattle.pending_drain.proofs.AsRead.{held-room, entries-room}
+use Rattle.pending_drain.proofs.AsRead.{held-room}
 use Rattle.pending_calls.proofs.NoneRemoved.{records-few, entries-below, records-inside}
-use Rattle.pending_drain.proofs.NoneTaken.{id-counted, none-taken}
+use Rattle.pending_drain.proofs.NoneTaken.{none-taken}
 use Rattle.pending_drain.proofs.draining.take_label.Statement.{statement}
 use Rattle.pending_drain.proofs.draining.take_label.Tie as tie
 
 nothing-goes-requires : tie.Need-nothing-goes-requires
-nothing-goes-requires c κs = ((search (entries-room, needs), search (held-room, needs)), search (id-counted, needs))
+nothing-goes-requires c κs = search (held-room, needs)
 
 remove-none-requires : tie.Need-remove-none-requires
 remove-none-requires c κs =
