@@ -45,10 +45,11 @@ fn evict(entries: &mut [Entry]) -> usize {
     let mut kept = 0;
     for at in 0..entries.len() {
         let entry = entries[at];
-        // SAFETY: no more are kept than were passed. Each is written, kept or not, so that no branch
-        // hangs on the label.
-        unsafe { *entries.get_unchecked_mut(kept) = entry };
-        kept += usize::from(entry[LABEL] != EVICTED);
+        if entry[LABEL] != EVICTED {
+            // SAFETY: no more are kept than were passed.
+            unsafe { *entries.get_unchecked_mut(kept) = entry };
+            kept += 1;
+        }
     }
     kept
 }

@@ -24,14 +24,24 @@ pub fn print() {
         println!("| {} | {} |", table.name, grouped(depth_of(&mut call)));
     }
     let body = vec![1; 1_500];
-    for (name, function) in [("IPFIX variable", port::IPFIX_VARIABLE), ("v9 fixed", port::V9_FIXED)]
-    {
+    for (name, function) in [
+        ("IPFIX variable", port::IPFIX_VARIABLE),
+        ("IPFIX fixed", port::IPFIX_FIXED),
+        ("v9 fixed", port::V9_FIXED),
+    ] {
         let mut cost = [0; 3];
         let widths = [65_535, 2];
         let mut call =
             || _ = black_box(port::preflight(function, &body, &widths, 65_535, &mut cost));
         println!("| preflight, {name} | {} |", grouped(depth_of(&mut call)));
     }
+    let mut budget = [0; 7];
+    let mut call = || {
+        black_box(port::budget_new(&mut budget, 1_000, 1_000));
+        black_box(port::reserve(&mut budget, 8, 80));
+        black_box(port::rollback(&mut budget, 0, 0));
+    };
+    println!("| budget: new, reserve, rollback | {} |", grouped(depth_of(&mut call)));
 }
 
 type Run<'a> = &'a mut dyn FnMut();

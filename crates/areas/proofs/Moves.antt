@@ -1,13 +1,13 @@
 -- A move within a list, one element at a time, and what it leaves. Assumes nothing.
 use mathlib.Core.Path.{_≡_, refl, sym, ap, _∙_}
-use mathlib.Core.List.{List, append-assoc}
+use mathlib.Core.List.{List, _++_, append-assoc}
 use Prim.Native.Nat.{ℕ, suc, _+_, _-_, _≤_, _<_}
 use native.Mathlib.Nat.{add-zero, add-suc, suc-add}
 use native.Mathlib.Numerals.{add-one}
 use native.Mathlib.Omega.{arith}
 use lib.ListN.{length, getD, take, drop, set, length-set, length-drop}
 use lib.Seq.{length-take-le, getD-take, getD-drop, take-suc, drop-cons, append-snoc, set-at}
-use lib.Seq.{paste, paste-zero, paste-suc}
+use lib.Seq.{paste, paste-zero, paste-suc, take-paste, take-add, drop-drop}
 use Rattle.areas.specs.Overwrite.{putAt, moved}
 use Rattle.areas.proofs.Puts.{drop-more, length-part, length-put, put-there, take-put, drop-put}
 
@@ -81,6 +81,39 @@ unfolding moved
 moved-cons from to n xs f t =
     rw (take-suc xs to 0 t, append-snoc, drop-cons xs from 0 f, add-suc, suc-add)
     (set-at (take to xs) (getD xs to 0) _ (getD xs from 0) to (length-take-le to xs (omega arith)))
+
+-- a move to a lower place in two parts, the front one first
+module _ (from to k n : ℕ) (xs : List ℕ) (down : to ≤ from) (source : from + (k + n) ≤ length xs) where
+  front-moved : take (to + k) (moved from to k xs) ≡ take to xs ++ take k (drop from xs)
+  front-moved =
+      rw (moved-pastes from to k xs)
+      (take-paste xs to (drop from xs) k (omega arith) (omega (arith, length-drop from xs)))
+
+  unmoved : (m : ℕ) → to + k ≤ m → drop m (moved from to k xs) ≡ drop m xs
+  unmoved m h = drop-moved-from from to k xs (omega arith) (omega arith) m h
+
+  parts-moved : (ys : List ℕ) → take (to + k) ys ≡ take to xs ++ take k (drop from xs) →
+      drop (from + k) ys ≡ drop (from + k) xs → drop (to + k + n) ys ≡ drop (to + k + n) xs →
+      moved (from + k) (to + k) n ys ≡ moved from to (k + n) xs
+  unfolding moved
+  parts-moved ys front behind rest =
+      let whole : to + (k + n) ≡ to + k + n = omega arith in
+      rw (front, behind, rest, whole, take-add k n (drop from xs), drop-drop k from xs, append-assoc, append-assoc)
+
+  pub moved-on : moved (from + k) (to + k) n (moved from to k xs) ≡ moved from to (k + n) xs
+  moved-on =
+      parts-moved (moved from to k xs) front-moved (unmoved (from + k) (omega arith))
+      (unmoved (to + k + n) (omega arith))
+
+-- the same by the steps of a call
+module _ (from to len k : ℕ) (area area₁ area₂ : List ℕ) (first : area₁ ≡ moved from to k area) (down : to ≤ from)
+    (source : from + len ≤ length area) (few : k ≤ len) where
+  pub parts-make-whole : area₂ ≡ moved (from + k) (to + k) (len - k) area₁ → area₂ ≡ moved from to len area
+  parts-make-whole second =
+      let whole : k + (len - k) ≡ len = omega arith in
+      second ∙ ap (moved (from + k) (to + k) (len - k)) first
+      ∙ moved-on from to k (len - k) area down (omega arith)
+      ∙ rw whole
 
 -- The loop from the front: the first `done` elements are moved.
 pub record MovedDown (area₀ : List ℕ) (from to len : ℕ) (area : List ℕ) (done : ℕ) : Type 0 where

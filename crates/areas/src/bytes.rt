@@ -4,6 +4,9 @@ ghost use Prim.Native.Nat.{_+_, _≤_};
 ghost use lib.ListN.{length};
 ghost use Rattle.areas.specs.Overwrite.{moved, overwritten, putAt};
 
+// From so many bytes on a move begins with those up to a multiple of 16.
+const MUCH: usize = 128;
+
 // Copies all of `from` to the front of `to`.
 pub fn copy_bytes(to: &mut [u8], from: &[u8])
     requires { ⌜ length (now from) ≤ length (now to) ⌝ }
@@ -26,7 +29,7 @@ pub fn write_body(area: &mut [u8], at: usize, body: &[u8])
 }
 
 // Moves to a lower place, or to the same one: from the front, so that an element is read before it is overwritten.
-fn move_bytes_down(area: &mut [u8], from: usize, to: usize, len: usize)
+fn shift_bytes_down(area: &mut [u8], from: usize, to: usize, len: usize)
     requires { ⌜ (from + len ≤ length (now area)) × (to ≤ from) ⌝ }
     ensures { λ _. ⌜ now (area .exit) ≡ moved from to len (now (area .entry)) ⌝ }
 {
@@ -35,6 +38,21 @@ fn move_bytes_down(area: &mut [u8], from: usize, to: usize, len: usize)
         area[to + done] = area[from + done];
         done += 1;
     }
+}
+
+// The same. Much is moved in two parts, the second to a multiple of 16: storing there is quicker, as no store lies in
+// two lines of the processor's cache.
+fn move_bytes_down(area: &mut [u8], from: usize, to: usize, len: usize)
+    requires { ⌜ (from + len ≤ length (now area)) × (to ≤ from) ⌝ }
+    ensures { λ _. ⌜ now (area .exit) ≡ moved from to len (now (area .entry)) ⌝ }
+{
+    if len < MUCH {
+        shift_bytes_down(area, from, to, len);
+        return;
+    }
+    let lead = 16 - to % 16;
+    shift_bytes_down(area, from, to, lead);
+    shift_bytes_down(area, from + lead, to + lead, len - lead);
 }
 
 // Moves to a higher place: from the back, so that an element is read before it is overwritten.

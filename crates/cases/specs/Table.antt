@@ -6,7 +6,7 @@ use lib.ListN.{replicate}
 use Rattle.wire.specs.declared.Reading.the-variants.{V9Fixed, IpfixFixed, IpfixVariable}
 use Rattle.wire.specs.Size.{leastSize}
 use Rattle.wire.specs.Padding.{isComplete}
-use Rattle.output_scan.specs.Field.{variableField, fieldOf}
+use Rattle.output_fields.specs.Field.{variableField, fieldOf}
 use Rattle.output_scan.specs.Scan.{fieldsOf, recordOf, recordsFrom, figures, scanOf}
 use Rattle.output_preflight.specs.Preflight.{preflightOf}
 use Rattle.output_budget.specs.declared.DecodedOutputBudget.{DecodedOutputBudget}

@@ -1,9 +1,6 @@
 -- Tests joined by `&&` and `||`, and choices by a test. Assumes nothing.
 use mathlib.Core.Path.{_≡_, refl, sym}
 use mathlib.Core.Bool.{Bool, true, false, _&&_, _||_, cond, false≢true}
-use Prim.Native.Nat.{ℕ, _≤_}
-use lib.Dec.{leb}
-use borrow.Author.Tests.{le-leb, leb-true}
 
 -- a choice has what both its sides have
 pub by-case : {A : Type 0} (P : A → Type 0) (t : Bool) {x y : A} → (t ≡ true → P x) → (t ≡ false → P y) →
@@ -54,7 +51,3 @@ same-test true true f g = refl
 same-test true false f g = sym (f refl)
 same-test false true f g = g refl
 same-test false false f g = refl
-
-pub same-order : (a b c d : ℕ) → (a ≤ b → c ≤ d) → (c ≤ d → a ≤ b) → leb a b ≡ leb c d
-same-order a b c d f g =
-    same-test (leb a b) (leb c d) (λ e. le-leb c d (f (leb-true a b e))) (λ e. le-leb a b (g (leb-true c d e)))

@@ -30,10 +30,9 @@ pub fn limits(
 pub fn new(budget: &mut [u64; 7], max_values: u64, max_payload_bytes: u64) -> u32
     ensures { λ r. ⌜ Opens «max_values» «max_payload_bytes» r (now (budget .exit)) ⌝ }
 {
-    let opened = DecodedOutputBudget::new(
-        FieldValues(max_values as usize),
-        PayloadBytes(max_payload_bytes as usize),
-    );
+    let values = max_values as usize;
+    let payload = max_payload_bytes as usize;
+    let opened = DecodedOutputBudget::new(FieldValues(values), PayloadBytes(payload));
     write_budget(opened, budget);
     0
 }
@@ -52,10 +51,9 @@ pub fn set_limits(budget: &mut [u64; 7], max_values: u64, max_payload_bytes: u64
     ensures { λ r. ⌜ Opens «max_values» «max_payload_bytes» r (now (budget .exit)) ⌝ }
 {
     let b = read_budget(budget);
-    let after = b.set_limits(
-        FieldValues(max_values as usize),
-        PayloadBytes(max_payload_bytes as usize),
-    );
+    let values = max_values as usize;
+    let payload = max_payload_bytes as usize;
+    let after = b.set_limits(FieldValues(values), PayloadBytes(payload));
     write_budget(after, budget);
     0
 }

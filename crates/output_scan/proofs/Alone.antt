@@ -11,13 +11,13 @@ use lib.Seq.{drop-cons}
 use borrow.Author.Tests.{eqb-true, eqb-false}
 use Rattle.wire.specs.declared.Reading.the-variants.{IpfixVariable}
 use Rattle.wire.specs.Size.{isVariable, leastSize}
-use Rattle.output_scan.specs.declared.Layout.{Layout}
-use Rattle.output_scan.specs.declared.Layout.the-variants.{Fixed, One, Several}
-use Rattle.output_scan.specs.Field.{Whole, Cut}
+use Rattle.output_fields.specs.declared.Layout.{Layout}
+use Rattle.output_fields.specs.declared.Layout.the-variants.{Fixed, One, Several}
+use Rattle.output_fields.specs.Field.{Whole, Cut}
 use Rattle.output_scan.specs.Scan.{recordOf}
-use Rattle.output_scan.specs.Layout.{hasVariable, behindFixed, layoutOf}
+use Rattle.output_fields.specs.Layout.{hasVariable, behindFixed, layoutOf}
 use Rattle.output_scan.proofs.Fixed.{Plain}
-use Rattle.output_scan.proofs.Fields.{tail-length}
+use Rattle.output_fields.proofs.Tails.{tail-length}
 use Rattle.output_scan.proofs.Records.{cut-field, RecordsPassed, no-record-passed, record-passed}
 use Rattle.output_scan.proofs.Spare.{FieldsSpared, Prefixed, none-spared, fixed-spared, spare-length}
 use Rattle.output_scan.proofs.Spare.{least-variable, prefix-cut, variable-cut, variable-spared, all-spared}

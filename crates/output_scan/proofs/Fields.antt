@@ -4,23 +4,18 @@ use mathlib.Core.Bool.{Bool, true, false, cond}
 use mathlib.Core.List.{List, [], _∷_}
 use Prim.Native.Nat.{ℕ, _+_, _*_, _-_, _≤_, _<_}
 use native.Mathlib.Numerals.{add-one}
-use native.Mathlib.Nat.{le-of-eq}
 use native.Mathlib.Omega.{arith}
-use lib.ListN.{length, getD, take, drop, length-drop, drop-of-length-le}
-use lib.Seq.{drop-cons, drop-drop, take-all}
+use lib.ListN.{length, getD, drop, length-drop, drop-of-length-le}
+use lib.Seq.{drop-cons, drop-drop}
 use lib.Dec.{ltb, leb}
 use borrow.Author.Tests.{lt-ltb, le-ltb, leb-true}
 use Rattle.wire.specs.declared.Reading.{Reading}
 use Rattle.wire.specs.Size.{isVariable}
-use Rattle.output_scan.specs.Field.{Span, Whole, Cut, spanOf, variableField, fieldOf}
+use Rattle.output_fields.specs.Field.{Span, Whole, Cut, spanOf, variableField, fieldOf}
 use Rattle.output_scan.specs.Scan.{behind, followedBy, fieldsOf}
 
 -- A field that says its length itself, by its first byte.
 module _ (s : List ℕ) where
-  pub no-prefix : length s ≡ 0 → Cut ≡ variableField s
-  unfolding variableField
-  no-prefix h = rw (le-ltb 0 (length s) (le-of-eq h))
-
   pub short-prefix : 0 < length s → getD s 0 0 < 255 → variableField s ≡ spanOf 1 (getD s 0 0) (length s)
   unfolding variableField
   short-prefix h k = rw (lt-ltb 0 (length s) h, lt-ltb (getD s 0 0) 255 k)
@@ -91,13 +86,6 @@ behind-none Cut = refl
 behind-behind : (a p s n : ℕ) (x : Span) → behind a p (behind s n x) ≡ behind (a + s) (p + n) x
 behind-behind a p s n (Whole s′ n′) = ap₂ Whole (omega arith) (omega arith)
 behind-behind a p s n Cut = refl
-
--- the rest of a slice from a place, as the code lends it
-pub tail-is-drop : (at : ℕ) (xs : List ℕ) → take (length xs - at) (drop at xs) ≡ drop at xs
-tail-is-drop at xs = take-all (length xs - at) (drop at xs) (omega (arith, length-drop at xs))
-
-pub tail-length : (at : ℕ) (xs : List ℕ) → length (take (length xs - at) (drop at xs)) ≡ length xs - at
-tail-length at xs = ap length (tail-is-drop at xs) ∙ length-drop at xs
 
 -- The loop over the fields of a record: i fields passed, in `at` bytes with `content` bytes of content.
 pub record FieldsPassed (bytes ws : List ℕ) (r : Reading) (at content i : ℕ) : Type 0 where

@@ -12,7 +12,7 @@ use borrow.Author.Tests.{le-leb}
 use Rattle.wire.specs.declared.Reading.{Reading}
 use Rattle.wire.specs.Size.{isVariable, leastSize}
 use Rattle.output_scan.specs.declared.Scanned.{Scanned}
-use Rattle.output_scan.specs.Field.{Whole, fieldOf}
+use Rattle.output_fields.specs.Field.{Whole, fieldOf}
 use Rattle.output_scan.specs.Scan.{fieldsOf, recordOf, scanOf, fixedScanOf}
 use Rattle.output_scan.proofs.Records.{same-figures, takes-some, cut-field, scan-none, scan-cut}
 use Rattle.output_scan.proofs.Records.{scan-whole}

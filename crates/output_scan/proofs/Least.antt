@@ -8,7 +8,7 @@ use lib.ListN.{length, getD, drop}
 use lib.Dec.{ltb, leb}
 use Rattle.wire.specs.declared.Reading.{Reading}
 use Rattle.wire.specs.Size.{isVariable, leastFieldSize, leastSize}
-use Rattle.output_scan.specs.Field.{Span, Whole, Cut, spanOf, variableField, fieldOf}
+use Rattle.output_fields.specs.Field.{Span, Whole, Cut, spanOf, variableField, fieldOf}
 use Rattle.output_scan.specs.Scan.{behind, followedBy, fieldsOf}
 use Rattle.output_scan.proofs.Fields.{Within, fields-within}
 

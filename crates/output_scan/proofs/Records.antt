@@ -3,14 +3,14 @@ use mathlib.Core.Path.{_≡_, refl, ap, _∙_}
 use mathlib.Core.Bool.{Bool, true, false, cond}
 use mathlib.Core.List.{List}
 use Prim.Native.Nat.{ℕ, zero, suc, _+_, _-_, _≤_, _<_}
-use native.Mathlib.Nat.{le-of-eq, sub-zero, pos-of-ne-zero}
+use native.Mathlib.Nat.{sub-zero, pos-of-ne-zero}
 use native.Mathlib.Omega.{arith}
 use lib.ListN.{length, drop, length-drop}
 use lib.Dec.{ltb}
-use borrow.Author.Tests.{lt-ltb, le-ltb, ltb-true}
+use borrow.Author.Tests.{lt-ltb, ltb-true}
 use Rattle.wire.specs.declared.Reading.{Reading}
 use Rattle.output_scan.specs.declared.Scanned.{Scanned}
-use Rattle.output_scan.specs.Field.{Span, Whole, Cut}
+use Rattle.output_fields.specs.Field.{Span, Whole, Cut}
 use Rattle.output_scan.specs.Scan.{fieldsOf, consuming, recordOf, recordThen, recordsFrom, more, figures}
 use Rattle.output_scan.specs.Scan.{scanOf}
 use Rattle.output_scan.proofs.Fields.{Within, fields-within}
@@ -22,10 +22,6 @@ TakesSome Cut = Unit {0}
 
 -- A record that takes nothing is none; any other is as its fields say.
 module _ (bytes ws : List ℕ) (r : Reading) where
-  pub takes-nothing : {s n : ℕ} → fieldsOf bytes ws r ≡ Whole s n → s ≡ 0 → recordOf bytes ws r ≡ Cut
-  unfolding recordOf
-  takes-nothing {s} e h = rw (e, le-ltb 0 s (le-of-eq h))
-
   pub takes-some : {s n : ℕ} → fieldsOf bytes ws r ≡ Whole s n → (s ≡ 0 → ⊥) → recordOf bytes ws r ≡ Whole s n
   unfolding recordOf
   takes-some {s} e h = rw (e, lt-ltb 0 s (pos-of-ne-zero h))

@@ -13,10 +13,11 @@ use lib.Dec.{leb, ltb}
 use borrow.Author.Tests.{eq-eqb, ne-eqb, le-leb, ltb-true, ltb-false}
 use Rattle.wire.specs.declared.Reading.the-variants.{IpfixVariable}
 use Rattle.wire.specs.Size.{leastFieldSize, leastSize}
-use Rattle.output_scan.specs.Field.{Whole, Cut, spanOf, variableField, fieldOf}
+use Rattle.output_fields.specs.Field.{Whole, Cut, spanOf, variableField, fieldOf}
 use Rattle.output_scan.specs.Scan.{fieldsOf, recordOf}
-use Rattle.output_scan.proofs.Fields.{short-prefix, cut-prefix, long-prefix, tail-is-drop, tail-length, FieldsPassed}
+use Rattle.output_scan.proofs.Fields.{short-prefix, cut-prefix, long-prefix, FieldsPassed}
 use Rattle.output_scan.proofs.Fields.{no-field-passed, field-passed, field-cut, all-passed}
+use Rattle.output_fields.proofs.Tails.{tail-is-drop, tail-length}
 use Rattle.output_scan.proofs.Least.{fields-least, too-short}
 use Rattle.output_scan.proofs.Records.{takes-some}
 

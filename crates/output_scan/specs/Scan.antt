@@ -6,7 +6,7 @@ use lib.ListN.{length, drop}
 use lib.Dec.{ltb}
 use Rattle.wire.specs.declared.Reading.{Reading}
 use Rattle.output_scan.specs.declared.Scanned.{Scanned}
-use Rattle.output_scan.specs.Field.{Span, Whole, Cut, fieldOf}
+use Rattle.output_fields.specs.Field.{Span, Whole, Cut, fieldOf}
 
 -- a span behind one of so many bytes, n of them content
 abbrev pub behind : ℕ → ℕ → Span → Span

@@ -4,3 +4,4 @@ pub mod Clearings
 pub mod Removals
 pub mod Removed
 pub mod NoneRemoved
+pub mod WholeRemoved

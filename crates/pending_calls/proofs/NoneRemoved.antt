@@ -22,6 +22,7 @@ use Rattle.table.proofs.Words.{length-entries, length-records}
 use Rattle.table.proofs.Facts.{LegalWords, words-say}
 use Rattle.table.proofs.Labels.{tally-most, absent-tally}
 use Rattle.table_entries.specs.declared.StayTest.{StayTest}
+use Rattle.table_entries.specs.declared.sweeps.Kept.{Kept}
 use Rattle.table_entries.specs.Sums.{lensWord}
 use Rattle.table_entries.specs.Sweep.{swept}
 use Rattle.table_entries.proofs.LabelSums.{length-summed, zeros}
@@ -38,7 +39,7 @@ use Rattle.table_view.proofs.Totals.{lens-owned}
 use Rattle.table_view.proofs.AllStay.{everything-swept}
 use Rattle.pending_calls.specs.declared.removal.Removed.{Removed}
 use Rattle.pending_calls.specs.Removal.{everything, counted, countedBut, Removes}
-use Rattle.pending_calls.proofs.Removals.{removal-done}
+use Rattle.pending_calls.proofs.Removals.{removal-done, closed-apart}
 use Rattle.pending_calls.proofs.Removed.{TiedRows, rows-tied, rows-placed, few-templates, few-bodies}
 use Rattle.pending_calls.proofs.Removed.{total-short, entries-below-records, records-within}
 
@@ -152,10 +153,12 @@ module _ (w : List ℕ) (n : ℕ) (ok : wellFormed w n ≡ true) where
             let many : f .entries ≡ entryCount w = ap (λ (g : HeaderFigures). g .entries) is in
             let all : k ≡ heldCount w + chanceCount w = ap (λ (g : HeaderFigures). g .templates + g .chance) is in
             let total : f .total ≡ lensWord es =
-            ap (λ (g : HeaderFigures). g .total) is ∙ total-all (sym (ap (λ (g : HeaderFigures). g .chance) is) ∙ none) in
+            ap (λ (g : HeaderFigures). g .total) is
+            ∙ total-all (sym (ap (λ (g : HeaderFigures). g .chance) is) ∙ none) in
             rw many
             (removal-done everything (recordsAt (limitsOf w)) (heldCount w + chanceCount w) (entryCount w) apart zeros w
-            w w′ (counted es) kept (record { entries = entryCount w; bytes = f .total; records = remain; apart = bodies })
+            w w′ (counted es) left
+            (record { entries = entryCount w; bytes = f .total; records = remain; apart = bodies })
             (entries-below-records w n legal, records-within w n legal)
             (record {
               few = omega arith;
@@ -164,7 +167,12 @@ module _ (w : List ℕ) (n : ℕ) (ok : wellFormed w n ≡ true) where
               head = refl;
               tail = refl;
             })
-            refl counts refl (rw (start, all) at closes) long)
+            (rw all-swept-stay)
+            (closed-apart (recordsAt (limitsOf w)) (heldCount w + chanceCount w) apart left (counted es) w w′ counts
+            refl (rw (start, all) at closes)) long)
+          where
+            left : Kept
+            left = record { entries = entryCount w; bytes = f .total }
 
         -- no record has the label
         pub none-apart : (at : ℕ) → at ≡ placeOf apart rs → k ≤ at →

@@ -2,17 +2,20 @@
 use mathlib.Core.Path.{_≡_}
 use mathlib.Core.Bool.{false}
 use mathlib.Core.List.{List}
-use Prim.Native.Nat.{ℕ, _+_, _*_, _≤_}
+use Prim.Native.Nat.{ℕ, _+_, _*_, _≤_, _<_}
 use lib.ListN.{length, getD, set, replicate, take, drop}
 use Rattle.config.specs.declared.Ttl.the-variants.{None}
 use Rattle.config.specs.Limits.{recordWords}
+use Rattle.config.proofs.Lists.{All}
 use Rattle.table.specs.declared.Entry.{Entry}
+use Rattle.table.specs.declared.TemplateRecord.{TemplateRecord}
 use Rattle.table.specs.Layout.{entriesAt}
 use Rattle.table.specs.Table.{entriesFrom, recordsFrom, indexFrom}
 use Rattle.table_entries.specs.declared.StayTest.{StayTest}
+use Rattle.table_entries.specs.declared.sweeps.Kept.{Kept}
 use Rattle.table_entries.specs.Sums.{lensWord, summed}
 use Rattle.table_entries.specs.Sweep.{swept}
-use Rattle.table_records.specs.Close.{closed, positions, remapped}
+use Rattle.table_records.specs.Close.{closed, positions, remapped, Closes}
 use Rattle.pending_calls.specs.declared.removal.Removed.{Removed}
 
 -- every entry stays by this test
@@ -25,6 +28,18 @@ counted es = summed everything false (replicate 1024 0) es
 
 abbrev pub countedBut : ℕ → List Entry → List ℕ
 countedBut apart es = set (counted es) apart 0
+
+-- k records from word p on are closed by how many bodies each label has kept; the record of the label `apart` goes
+pub record ClosesApart (p k apart : ℕ) (left : Kept) (kept w w′ : List ℕ) (r : Removed) : Type 0 where
+  pub entries : r .entries ≡ left .entries
+  pub bytes : r .bytes ≡ left .bytes
+  pub bodies-apart : r .apart ≡ getD kept apart 0
+  pub closes : Closes p k (set kept apart 0) w w′ (r .records)
+
+-- of each record all bodies are skipped, or none
+pub record SkipsWhole (skip : List ℕ) (rs : List TemplateRecord) : Type 0 where
+  pub long : length skip ≡ 1024
+  pub whole : All (λ r. (0 < getD skip (r .label) 0 → r .count ≤ getD skip (r .label) 0)) rs
 
 -- m entries are swept, and k records from word p on closed. The record of the label `apart` goes, its bodies stay.
 pub record Removes (q : StayTest) (p k m apart : ℕ) (skip w w′ : List ℕ) (r : Removed) : Type 0 where

@@ -9,4 +9,5 @@ pub use counters::raised;
 pub use removal::Removed;
 pub use removal::remove;
 pub use removal::remove_none;
+pub use removal::remove_whole;
 pub use removal::stay_all;

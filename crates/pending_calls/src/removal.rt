@@ -5,20 +5,23 @@ ghost use Prim.Native.Nat.{_+_, _*_, _≤_};
 ghost use lib.ListN.{length, replicate};
 ghost use Rattle.config.specs.Limits.{recordWords, entryWords};
 ghost use Rattle.table.specs.Layout.{limitsOf, heldCount, entryCount, chanceCount, entriesAt, recordsAt};
+ghost use Rattle.table.specs.Table.{records};
 ghost use Rattle.table.specs.WellFormed.{wellFormed};
 ghost use Rattle.pending_flows.specs.Header.{figuresAt};
-ghost use Rattle.pending_calls.specs.Removal.{everything, Removes};
+ghost use Rattle.pending_calls.specs.Removal.{everything, ClosesApart, SkipsWhole, Removes};
 use config::PendingFlowsConfig;
 use config::Ttl;
 use pending_flows::HeaderFigures;
 use table::LABELS;
 use table::records_at;
 use table_closing::close;
+use table_entries::Kept;
 use table_entries::StayTest;
 use table_entries::sums_by_label;
 use table_entries::sweep;
 use table_promotion::place_of;
 use table_promotion::take_off;
+use table_records::count_whole;
 use table_records::set_sum;
 use table_records::sum_of;
 
@@ -43,6 +46,31 @@ pub fn stay_all() -> StayTest
     }
 }
 
+// Closes the records by how many bodies each label has kept; the record of the label `apart` goes, and what it kept is
+// told.
+fn close_apart(
+    words: &mut [u64],
+    from: usize,
+    records: usize,
+    left: Kept,
+    kept: &mut [u32; LABELS],
+    apart: u64,
+) -> Removed
+    requires { ⌜ (from + recordWords * records ≤ length (now words)) × (records ≤ 1024) ⌝ }
+    ensures { λ r.
+        ⌜ ClosesApart from records apart left (now (kept .entry)) (now (words .entry)) (now (words .exit)) r ⌝ }
+{
+    let bodies = sum_of(kept, apart);
+    set_sum(kept, apart, 0);
+    let remain = close(words, from, records, kept);
+    Removed {
+        entries: left.entries,
+        bytes: left.bytes,
+        records: remain,
+        apart: bodies,
+    }
+}
+
 // Sweeps the entries and closes the records; the record of the label `apart` goes though its bodies stay.
 pub fn remove(
     words: &mut [u64],
@@ -61,18 +89,37 @@ pub fn remove(
     let left = sweep(words, entries, test, skip);
     let mut kept = [0u32; LABELS];
     sums_by_label(words, left.entries, stay_all(), false, &mut kept);
-    let bodies = sum_of(&kept, apart);
-    set_sum(&mut kept, apart, 0);
-    let remain = close(words, from, records, &kept);
-    Removed {
-        entries: left.entries,
-        bytes: left.bytes,
-        records: remain,
-        apart: bodies,
-    }
+    close_apart(words, from, records, left, &mut kept, apart)
 }
 
-// The removal where every body stays and none is handed out: no entry is looked at, and of the records only the one of the label `apart` goes.
+// The removal where every body stays by itself, and of each record all bodies are skipped or none: the records tell
+// what each label keeps, and the entries that are left are not counted.
+pub fn remove_whole(
+    words: &mut [u64],
+    bytes: &[u8],
+    limits: PendingFlowsConfig,
+    figures: HeaderFigures,
+    skip: &mut [u32; LABELS],
+    apart: u64,
+) -> Removed
+    requires { ⌜ (wellFormed (now words) (length (now bytes)) ≡ true) × (limits ≡ limitsOf (now words)) ⌝ }
+    requires { ⌜ (figures ≡ figuresAt (now words)) × SkipsWhole (now skip) (records (now words)) ⌝ }
+    ensures { λ r.
+        ⌜ Removes everything (recordsAt (limitsOf (now (words .entry)))) (heldCount (now (words .entry)) + chanceCount
+        (now (words .entry))) (entryCount (now (words .entry))) apart (now (skip .entry)) (now (words .entry))
+        (now (words .exit)) r ⌝ }
+{
+    let from = records_at(limits);
+    let records = (figures.templates + figures.chance) as usize;
+    let mut kept = [0u32; LABELS];
+    // before the sweep, which spends what is to be skipped
+    count_whole(words, from, records, skip, &mut kept);
+    let left = sweep(words, figures.entries as usize, stay_all(), skip);
+    close_apart(words, from, records, left, &mut kept, apart)
+}
+
+// The removal where every body stays and none is handed out: no entry is looked at, and of the records only the one of
+// the label `apart` goes.
 pub fn remove_none(
     words: &mut [u64],
     bytes: &[u8],

@@ -47,8 +47,8 @@ use Rattle.pending_calls.specs.Removal.{Removes}
 use Rattle.offer_plan.specs.declared.plan.OfferPlan.{OfferPlan}
 use Rattle.offer_plan.specs.Plan.{planTest, skipOf, Plans}
 use Rattle.pending_offer.specs.Promises.{bodyOf}
-use Rattle.pending_offer.specs.Room.{roomEntries, roomBytes, roomPlace, newEntry, ChoosesLabel}
-use Rattle.pending_offer.proofs.Rooms.{Room, room-made}
+use Rattle.offer_steps.specs.Room.{roomEntries, roomBytes, roomPlace, newEntry, ChoosesLabel}
+use Rattle.offer_steps.proofs.Rooms.{Room, room-made}
 use Rattle.pending_offer.proofs.Settled.{outcome, settled-limited}
 use Rattle.pending_offer.proofs.Left.{left-placed, left-bytes}
 use Rattle.pending_offer.proofs.Outcomes.{leaves, others, accepted-held}

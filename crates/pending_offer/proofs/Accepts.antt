@@ -23,14 +23,14 @@ use Rattle.pending_calls.specs.Promises.{Does}
 use Rattle.pending_calls.proofs.Removed.{TiedRows}
 use Rattle.offer_plan.specs.declared.plan.OfferPlan.{OfferPlan}
 use Rattle.pending_offer.specs.Promises.{bodyOf}
-use Rattle.pending_offer.specs.Room.{RoomFor, AddsBody}
-use Rattle.pending_offer.specs.Settle.{settledFigures}
+use Rattle.offer_steps.specs.Room.{RoomFor, AddsBody}
+use Rattle.offer_steps.specs.Settle.{settledFigures}
 use Rattle.pending_offer.proofs.Settled.{outcome, drops-counted, settled-does}
 use Rattle.pending_offer.proofs.Left.{left-behind}
 use Rattle.pending_offer.proofs.Outcomes.{accepted-verdict}
 use Rattle.pending_offer.proofs.Accepted.{Accepting, placed-before, chosen, records-few, body-room, one-more}
-use Rattle.pending_offer.proofs.Accepted.{lens-after, tied-after, placed-after, bytes-long, bytes-behind, held-after}
-use Rattle.pending_offer.proofs.Accepted.{entries-few}
+use Rattle.pending_offer.proofs.Accepted.{lens-after, tied-after, placed-after, bytes-long, bytes-behind}
+use Rattle.pending_offer.proofs.Accepted.{held-after, entries-few}
 
 module _ {w b : List ℕ} {l′ : PendingFlowsConfig} {i : ℕ} {body : List ℕ} {clock : ℕ} {plan : OfferPlan}
     {w₁ : List ℕ} {left : Removed} {a : ℕ} (known : Accepting w b l′ i body clock plan w₁ left a) where
@@ -128,5 +128,6 @@ module _ {w b : List ℕ} {l′ : PendingFlowsConfig} {i : ℕ} {body : List ℕ
         rw (more .bytes) (bytes-behind known) in
         settled-does w b (known .ok) i x (known .small) verdict w₂ b₂ k m (h - left .entries)
         (left .bytes + length body) (rows long adds) (placed long adds) held
-        (lens-after known ∙ rw (more .entries)) (omega (arith, counted)) same-long long (known .limits) figures written same-behind
+        (lens-after known ∙ rw (more .entries)) (omega (arith, counted)) same-long long (known .limits) figures written
+        same-behind
         (behind long adds)

@@ -1,7 +1,7 @@
 -- The label under which an accepted body is stored: its own template's, or a free one. Assumes nothing.
 use mathlib.Core.Path.{_≡_, refl, sym, ap, _∙_, subst}
 use mathlib.Core.Logic.{_≢_}
-use mathlib.Core.Bool.{Bool, true, false, cond}
+use mathlib.Core.Bool.{Bool, true, false}
 use mathlib.Core.List.{List, [], _∷_, _++_}
 use Prim.Native.Nat.{ℕ, _+_, _≤_, _<_}
 use native.Mathlib.Omega.{arith}
@@ -13,7 +13,7 @@ use Rattle.config.proofs.Lists.{All, all-map, all-both}
 use Rattle.table.specs.declared.Entry.{Entry}
 use Rattle.table.specs.declared.TemplateRecord.{TemplateRecord}
 use Rattle.table.specs.Layout.{limitsOf, heldCount, entryCount, chanceCount, entriesAt, recordsAt}
-use Rattle.table.specs.Table.{tableOf, entriesFrom, recordsFrom, indexFrom, hasLabel, tally}
+use Rattle.table.specs.Table.{tableOf, entriesFrom, recordsFrom, indexFrom, tally}
 use Rattle.table.specs.WellFormed.{wellFormed}
 use Rattle.table.proofs.Words.{length-records}
 use Rattle.table.proofs.Facts.{LegalRecord, LegalWords, words-say, differ-front}
@@ -37,7 +37,7 @@ use Rattle.pending_calls.specs.Removal.{Removes}
 use Rattle.pending_calls.proofs.Removed.{TiedRowsApart}
 use Rattle.offer_plan.specs.declared.plan.OfferPlan.{OfferPlan}
 use Rattle.offer_plan.specs.Plan.{planTest, skipOf, Plans}
-use Rattle.pending_offer.specs.Room.{LabelRoom, ChoosesLabel}
+use Rattle.offer_steps.specs.Room.{LabelRoom, ChoosesLabel}
 use Rattle.pending_offer.proofs.Settled.{outcome, settled-limited}
 use Rattle.pending_offer.proofs.Left.{staying, held-legal, bodies-left, templates-left}
 use Rattle.pending_offer.proofs.Left.{left-rows, left-apart, left-entries, left-records}

@@ -1,7 +1,3 @@
-pub mod HeldBodies
-pub mod PlannedRemoval
-pub mod Rooms
-pub mod Additions
 pub mod TooLong
 pub mod Settled
 pub mod Left

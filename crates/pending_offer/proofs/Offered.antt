@@ -19,8 +19,7 @@ use Rattle.pending_calls.proofs.Performed.{damaged-performs, performed, untouch
 use Rattle.pending_offer.specs.declared.offering.OfferRefusal.the-variants as Refusal
 use Rattle.pending_offer.specs.declared.offering.OfferAnswer.{OfferAnswer}
 use Rattle.pending_offer.specs.declared.offering.OfferAnswer.the-variants as Offer
-use Rattle.pending_offer.specs.Promises.{bodyOf, Offers}
-use Rattle.pending_offer.specs.Settle.{DoesOffer}
+use Rattle.pending_offer.specs.Promises.{bodyOf, Offers, DoesOffer}
 use Rattle.pending_offer.proofs.TooLong.{too-long-does}
 
 -- a body that is not too long fits in an empty cache

@@ -30,8 +30,8 @@ use Rattle.pending_calls.proofs.Removed.{TiedRows}
 use Rattle.offer_plan.specs.declared.plan.OfferPlan.{OfferPlan}
 use Rattle.offer_plan.specs.Plan.{planTest, skipOf, Plans}
 use Rattle.pending_offer.specs.Promises.{bodyOf}
-use Rattle.pending_offer.specs.Settle.{settledFigures}
-use Rattle.pending_offer.proofs.HeldBodies.{held-most}
+use Rattle.offer_steps.specs.Settle.{settledFigures}
+use Rattle.offer_steps.proofs.HeldBodies.{held-most}
 use Rattle.pending_offer.proofs.Settled.{outcome, drops-counted, settled-does}
 use Rattle.pending_offer.proofs.Left.{held-legal, left-rows, left-placed, left-bytes, left-entries}
 use Rattle.pending_offer.proofs.Left.{left-records, left-behind, staying, bodies-left, templates-left}
@@ -121,5 +121,6 @@ module _ {w b : List ℕ} {l′ : PendingFlowsConfig} {i : ℕ} {body : List ℕ
     refused-does figures written =
         settled-does w b (known .ok) i x (known .small) verdict w₁ b (left .records) (left .entries)
         (h - left .entries + 1) (left .bytes) rows placed held-left
-        (left-bytes w b (known .ok) i clock (length body) 1024 (known .plans) (known .removed)) (omega (arith, counted)) refl (known .long) (known .limits)
-        figures written refl (left-behind w b (known .ok) i clock (length body) 1024 (known .plans) (known .removed))
+        (left-bytes w b (known .ok) i clock (length body) 1024 (known .plans) (known .removed)) (omega (arith, counted))
+        refl (known .long) (known .limits) figures written refl
+        (left-behind w b (known .ok) i clock (length body) 1024 (known .plans) (known .removed))

@@ -39,7 +39,7 @@ use Rattle.table_view.proofs.Stored.{Stored, tableWith, legal-limited, stored-v
 use Rattle.pending_calls.specs.Promises.{Does}
 use Rattle.pending_calls.proofs.Headers.{headed, headed-limits, headed-flag, headed-length, headed-behind}
 use Rattle.pending_calls.proofs.Removed.{TiedRows}
-use Rattle.pending_offer.specs.Settle.{settledFigures}
+use Rattle.offer_steps.specs.Settle.{settledFigures}
 
 -- a header over rows that no template is handed out from
 module _ (l : PendingFlowsConfig) (f : HeaderFigures) (w : List ℕ) where

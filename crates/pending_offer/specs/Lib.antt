@@ -1,3 +1,1 @@
 pub mod Promises
-pub mod Room
-pub mod Settle

@@ -5,11 +5,11 @@ use Prim.Native.Nat.{ℕ}
 use lib.ListN.{set}
 use Rattle.table.specs.Layout.{limitsOf, droppedWord}
 use Rattle.cache_model.specs.Bodies.{Body}
-use Rattle.cache_model.specs.Cache.{Answer, done, number, raised}
+use Rattle.cache_model.specs.Cache.{Cache, Answer, done, number, raised}
 use Rattle.cache_model.specs.Offer.{offered}
 use Rattle.pending_flows.specs.View.{Areas, areasOf}
 use Rattle.pending_flows.specs.Header.{droppedAt}
-use Rattle.pending_calls.specs.Promises.{Performs, UntouchedPast}
+use Rattle.pending_calls.specs.Promises.{Performs, Does, UntouchedPast}
 use Rattle.pending_offer.specs.declared.offering.OfferRefusal.{OfferRefusal}
 use Rattle.pending_offer.specs.declared.offering.OfferRefusal.the-variants as Refusal
 use Rattle.pending_offer.specs.declared.offering.OfferAnswer.{OfferAnswer}
@@ -38,3 +38,9 @@ pub record Offers (id : ℕ) (body : List ℕ) (now : ℕ) (a : Areas) (r : Offe
   pub performs : Performs (offered id (bodyOf body now)) a (offerAnswer r) a′
   pub tooLong : offerAnswer r ≡ number 6 → a′ ≡ oneDropped a
   pub frame : UntouchedPast (limitsOf (a .words)) a a′
+
+-- what an offer does to a well-formed cache c
+pub record DoesOffer (id : ℕ) (body : List ℕ) (now : ℕ) (c : Cache) (a : Areas) (r : OfferAnswer) (a′ : Areas)
+    : Type 0 where
+  pub does : Does (offered id (bodyOf body now)) c a (offerAnswer r) a′
+  pub tooLong : offerAnswer r ≡ number 6 → a′ ≡ oneDropped a

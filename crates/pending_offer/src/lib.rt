@@ -1,8 +1,5 @@
 // Offering a body to a pending flow cache (pending_flows.rs).
 mod offering;
-mod removing;
-mod settling;
-mod storing;
 
 pub use offering::OfferAnswer;
 pub use offering::OfferRefusal;

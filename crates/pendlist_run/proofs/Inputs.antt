@@ -9,11 +9,11 @@ use lib.Seq.{take-take}
 use lib.Dec.{eqb}
 use borrow.Author.Tests.{eq-eqb, ne-eqb, eqb-true}
 use Rattle.pending_flows.specs.View.{Areas, areasOf, view}
-use Rattle.pendlist_run.specs.declared.turns.Turn.{Turn}
+use Rattle.pendlist_buffer.specs.declared.Turn.{Turn}
 use Rattle.pendlist_run.specs.declared.program.Ended.the-variants.{Input, Bad, Write, Reads}
 use Rattle.pendlist_texts.specs.Lists.{ListState}
-use Rattle.pendlist_run.specs.Turns.{Standing, begun, withTurn, nextTurn, turnsOf, inputTurns}
-use Rattle.pendlist_run.specs.Turns.{turnIn, TakesTurn}
+use Rattle.pendlist_turns.specs.Turns.{Standing, begun, withTurn, nextTurn, turnsOf, inputTurns}
+use Rattle.pendlist_buffer.specs.Buffer.{turnIn, TakesTurn}
 use Rattle.pendlist_run.specs.Program.{ReadsBehind, turnsIn, HandsRows, RunsInput, RunsProgram}
 
 -- a read more: its turn comes last

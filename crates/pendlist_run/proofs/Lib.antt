@@ -1,3 +1,2 @@
-pub mod OneTurn
 pub mod Inputs
-pub mod Cuts
+pub mod ListRead

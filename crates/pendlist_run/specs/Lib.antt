@@ -1,3 +1,1 @@
-pub mod Turns
 pub mod Program
-pub mod Tests

@@ -7,7 +7,7 @@ use lib.ListN.{length, take}
 use Rattle.pending_flows.specs.View.{Areas, view}
 use Rattle.pendlist_run.specs.declared.program.Ended.{Ended}
 use Rattle.pendlist_run.specs.declared.program.Ended.the-variants.{Input, Bad, Write, Reads}
-use Rattle.pendlist_run.specs.Turns.{Standing, nextTurn, inputTurns}
+use Rattle.pendlist_turns.specs.Turns.{Standing, nextTurn, inputTurns}
 
 -- A read behind the buffer's first bytes, which stay; r bytes are then there.
 pub record ReadsBehind (kept : ℕ) (buffer : List ℕ) (r : ℕ) (buffer′ : List ℕ) : Type 0 where

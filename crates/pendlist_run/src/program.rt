@@ -4,9 +4,9 @@ ghost use Prim.Native.Nat.{_≤_};
 ghost use lib.ListN.{length};
 ghost use Rattle.pending_flows.specs.View.{areasOf};
 ghost use Rattle.pendlist_run.specs.Program.{ReadsBehind, HandsRows, RunsInput, RunsProgram};
-use super::turns::take_turn;
 use libc::STDIN_FILENO;
 use libc::STDOUT_FILENO;
+use pendlist_buffer::take_turn;
 use pendlist_calls::byte_area;
 use pendlist_calls::word_area;
 

@@ -167,7 +167,8 @@ module _ (q : StayTest) (entries : ℕ) where
             same-length = length-put w to e ∙ inv .same-length;
             long = len′;
             rest = kept-rest;
-            sum = adds ∙ rw (kept-more, lens-more, inv .sum) (mod-add-mod (lensSum (entriesFrom w entriesAt kept)) (2 ^ 64) (e .len));
+            sum = adds ∙ rw (kept-more, lens-more, inv .sum)
+                (mod-add-mod (lensSum (entriesFrom w entriesAt kept)) (2 ^ 64) (e .len));
             head = take-put w to e entriesAt (omega (arith, inv .filled)) ∙ inv .head;
             tail = drop-put w to e (entriesAt + entryWords * entries) (omega (arith, inv)) ∙ inv .tail;
           }

@@ -58,6 +58,14 @@ placed-swept q skip from most (e ∷ es) p =
     (λ _ _. lower (swept q (lessAt skip (e .label)) es) (placed-swept q (lessAt skip (e .label)) end most es (p .2)))
     (λ _ _. (p .0, p .1, placed-swept q skip end most es (p .2)))
 
+-- two tests that agree keep the same
+pub swept-alike : (q q′ : StayTest) → ((e : Entry) → stays q e ≡ stays q′ e) → (skip : List ℕ) (es : List Entry) →
+    swept q skip es ≡ swept q′ skip es
+unfolding swept
+swept-alike q q′ same skip [] = refl
+swept-alike q q′ same skip (e ∷ es) =
+    rw (same e, swept-alike q q′ same (lessAt skip (e .label)) es, swept-alike q q′ same skip es)
+
 -- where each stays and none is to be skipped, all are kept
 pub swept-all : (q : StayTest) (skip : List ℕ) (es : List Entry) → All (λ e. stays q e ≡ true) es →
     All (λ e. getD skip (e .label) 0 ≡ 0) es → swept q skip es ≡ es

@@ -5,11 +5,12 @@ ghost use lib.ListN.{length, getD};
 ghost use Rattle.config.specs.Limits.{recordWords};
 ghost use Rattle.table.specs.Table.{recordsFrom};
 ghost use Rattle.table_records.specs.Close.{nowhere};
-ghost use Rattle.table_records.specs.Take.{placeOf, positionsBut, cappedCount, TakesOff};
+ghost use Rattle.table_records.specs.Take.{placeOf, positionsBut, TakesOff};
 ghost use Rattle.table_records.specs.Passes.{MovesUp, ClosesIndex};
 use config::RECORD_WORDS;
 use table::INDEX;
 use table::record_at;
+use table_records::capped_count;
 use table_records::put_record;
 
 // What stands for the new position of a record that goes.
@@ -86,16 +87,6 @@ fn lower_index(words: &mut [u64], from: usize, records: usize, at: usize)
         keys_left -= 1;
         p += RECORD_WORDS;
     }
-}
-
-// A record's count as a sum by label, which stops at the largest 32-bit number.
-fn capped_count(count: u64) -> u32
-    ensures { λ r. ⌜ r ≡ cappedCount count ⌝ }
-{
-    if 4294967295 < count {
-        return 4294967295;
-    }
-    count as u32
 }
 
 // Takes the record at a place off, and returns how many bodies it counted.

@@ -18,3 +18,4 @@ pub mod ClosedIndex
 pub mod Places
 pub mod MovesUp
 pub mod Taken
+pub mod Whole

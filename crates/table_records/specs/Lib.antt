@@ -3,3 +3,4 @@ pub mod Add
 pub mod Choose
 pub mod Take
 pub mod Passes
+pub mod Whole

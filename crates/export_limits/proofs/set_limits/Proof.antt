@@ -13,7 +13,10 @@ write-budget-requires : tie.Need-write-budget-requires
 write-budget-requires c κs = search needs
 
 returns : tie.Need-returns
-returns c = search (opens, needs)
+returns c =
+    let made : tie.After-set-limits = search needs in
+    let written : tie.After-write-budget = search needs in
+    opens _ _ _ _ (made .set-limits .ensures) (written .write-budget .ensures)
 
 pub set-limits-spec : {M : Type 1} → statement M
 set-limits-spec =

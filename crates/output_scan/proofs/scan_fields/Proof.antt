@@ -28,6 +28,23 @@ Inv-records body widths least max-records rest₀ records₀ payload₀ rest rec
 abbrev μ-records : tie.MeasureT-records
 μ-records body widths least max-records rest₀ records₀ payload₀ rest records payload = max-records - records
 
+-- the places that the needs below go back to: the function's start, the record that is read, its field, the first byte
+-- of a variable-length field, and the place where two bytes more are there
+abbrev Start : Type 0
+Start = tie.Start Inv-fields μ-fields Inv-records μ-records
+
+abbrev Record : Type 0
+Record = tie.In-records Inv-fields μ-fields Inv-records μ-records
+
+abbrev Field : Type 0
+Field = tie.In-fields Inv-fields μ-fields Inv-records μ-records
+
+abbrev Prefix : Type 0
+Prefix = tie.After-byte-at Inv-fields μ-fields Inv-records μ-records
+
+abbrev LongPrefix : Type 0
+LongPrefix = tie.Else5 Inv-fields μ-fields Inv-records μ-records
+
 records-holds : tie.Need-records-holds Inv-fields μ-fields Inv-records μ-records
 records-holds c = no-record-passed _ _ _ _
 
@@ -41,7 +58,9 @@ part-next-end : tie.Need-part-next-end Inv-fields μ-fields Inv-records μ-recor
 part-next-end c = search needs
 
 fields-holds : tie.Need-fields-holds Inv-fields μ-fields Inv-records μ-records
-fields-holds c = none-spared (c .before .before .before .before .before .before .pre .0) (c .before .if1 .left)
+fields-holds c =
+    let start : Start = search needs in
+    none-spared (start .pre .0) (c .before .if1 .left)
 
 mul-width : tie.Need-mul-width Inv-fields μ-fields Inv-records μ-records
 mul-width c = search needs
@@ -77,8 +96,11 @@ part-next-end-2 : tie.Need-part-next-end-2 Inv-fields μ-fields Inv-records μ-r
 part-next-end-2 c = search needs
 
 fields-again-2 : tie.Need-fields-again-2 Inv-fields μ-fields Inv-records μ-records
-fields-again-2 c = short-spared (c .before .before .before .before .before .before .before .fields .inv) (c .before .before .before .before .before .before .fields-test .taken) (c .before .before .before .before .if2 .left)
-    (c .before .before .before .byte-at .ensures .0) (c .before .before .if3 .taken) (c .before .if4 .left)
+fields-again-2 c =
+    let field : Field = search needs in
+    let prefix : Prefix = search needs in
+    short-spared (field .before .fields .inv) (field .fields-test .taken) (prefix .before .if2 .left)
+    (prefix .byte-at .ensures .0) (c .before .before .if3 .taken) (c .before .if4 .left)
 
 add-at-2 : tie.Need-add-at-2 Inv-fields μ-fields Inv-records μ-records
 add-at-2 c = omega arith
@@ -102,11 +124,14 @@ part-next-end-3 : tie.Need-part-next-end-3 Inv-fields μ-fields Inv-records μ-r
 part-next-end-3 c = search needs
 
 long-length-requires : tie.Need-long-length-requires Inv-fields μ-fields Inv-records μ-records
-long-length-requires c κs = omega (
-  arith,
-  long-inside (c .before .before .before .before .before .before .before .fields .inv) (c .before .before .before .before .before .before .fields-test .taken) (c .before .before .before .before .if2 .left)
-      (c .before .before .before .byte-at .ensures .0) (c .before .before .if3 .left) (c .before .before .before .byte-at .ensures .1) (c .before .if5 .left),
-)
+long-length-requires c κs =
+    let field : Field = search needs in
+    let prefix : Prefix = search needs in
+    omega (
+      arith,
+      long-inside (field .before .fields .inv) (field .fields-test .taken) (prefix .before .if2 .left)
+          (prefix .byte-at .ensures .0) (c .before .before .if3 .left) (prefix .byte-at .ensures .1) (c .before .if5 .left),
+    )
 
 sub-next-4 : tie.Need-sub-next-4 Inv-fields μ-fields Inv-records μ-records
 sub-next-4 c = search needs
@@ -118,8 +143,12 @@ part-next-end-4 : tie.Need-part-next-end-4 Inv-fields μ-fields Inv-records μ-r
 part-next-end-4 c = search needs
 
 fields-again-3 : tie.Need-fields-again-3 Inv-fields μ-fields Inv-records μ-records
-fields-again-3 c = long-spared (c .before .before .before .before .before .before .before .before .before .before .fields .inv) (c .before .before .before .before .before .before .before .before .before .fields-test .taken) (c .before .before .before .before .before .before .before .if2 .left)
-    (c .before .before .before .before .before .before .byte-at .ensures .0) (c .before .before .before .before .before .if3 .left) (c .before .before .before .before .before .before .byte-at .ensures .1) (c .before .before .before .before .if5 .left)
+fields-again-3 c =
+    let field : Field = search needs in
+    let prefix : Prefix = search needs in
+    let long : LongPrefix = search needs in
+    long-spared (field .before .fields .inv) (field .fields-test .taken) (prefix .before .if2 .left)
+    (prefix .byte-at .ensures .0) (long .before .if3 .left) (prefix .byte-at .ensures .1) (long .if5 .left)
     (c .before .before .long-length .ensures .0) (c .before .if6 .left)
 
 add-at-4 : tie.Need-add-at-4 Inv-fields μ-fields Inv-records μ-records
@@ -141,8 +170,11 @@ sub-payload : tie.Need-sub-payload Inv-fields μ-fields Inv-records μ-records
 sub-payload c = omega arith
 
 records-again : tie.Need-records-again Inv-fields μ-fields Inv-records μ-records
-records-again c = record-passed (c .before .before .before .before .before .records .inv) (c .before .before .before .before .records-test .taken)
-    (all-spared (c .before .fields .inv) (c .fields-test .left) (omega (arith, c .before .before .before .before .before .before .before .before .pre .0, c .before .before .before .before .before .before .before .before .pre .1)))
+records-again c =
+    let start : Start = search needs in
+    let record-here : Record = search needs in
+    record-passed (record-here .before .records .inv) (record-here .records-test .taken)
+    (all-spared (c .before .fields .inv) (c .fields-test .left) (omega (arith, start .pre .0, start .pre .1)))
     (rest-spared (c .before .fields .inv) (c .fields-test .left))
 
 add-payload : tie.Need-add-payload Inv-fields μ-fields Inv-records μ-records
@@ -155,23 +187,38 @@ returns : tie.Need-returns Inv-fields μ-fields Inv-records μ-records
 returns c = sym (at-limit (c .before .records .inv) (c .records-test .left))
 
 returns-2 : tie.Need-returns-2 Inv-fields μ-fields Inv-records μ-records
-returns-2 c = sym (stopped (c .before .before .records .inv) (c .before .records-test .taken)
-    (cut-field _ _ _ (too-short _ _ _ (omega (arith, c .before .before .before .before .before .pre .0)))))
+returns-2 c =
+    let start : Start = search needs in
+    sym (stopped (c .before .before .records .inv) (c .before .records-test .taken)
+    (cut-field _ _ _ (too-short _ _ _ (omega (arith, start .pre .0)))))
 
 returns-3 : tie.Need-returns-3 Inv-fields μ-fields Inv-records μ-records
-returns-3 c = sym (stopped (c .before .before .before .before .before .before .before .before .before .before .records .inv) (c .before .before .before .before .before .before .before .before .before .records-test .taken)
-    (cut-field _ _ _ (short-cut (c .before .before .before .before .before .before .fields .inv) (c .before .before .before .before .before .fields-test .taken) (c .before .before .before .if2 .left)
-    (c .before .before .byte-at .ensures .0) (c .before .if3 .taken) (c .if4 .taken))))
+returns-3 c =
+    let record-here : Record = search needs in
+    let field : Field = search needs in
+    let prefix : Prefix = search needs in
+    sym (stopped (record-here .before .records .inv) (record-here .records-test .taken)
+    (cut-field _ _ _ (short-cut (field .before .fields .inv) (field .fields-test .taken) (prefix .before .if2 .left)
+    (prefix .byte-at .ensures .0) (c .before .if3 .taken) (c .if4 .taken))))
 
 returns-4 : tie.Need-returns-4 Inv-fields μ-fields Inv-records μ-records
-returns-4 c = sym (stopped (c .before .before .before .before .before .before .before .before .before .before .records .inv) (c .before .before .before .before .before .before .before .before .before .records-test .taken)
-    (cut-field _ _ _ (prefix-cut (c .before .before .before .before .before .before .fields .inv) (c .before .before .before .before .before .fields-test .taken) (c .before .before .before .if2 .left)
-    (c .before .before .byte-at .ensures .0) (c .before .if3 .left) (c .before .before .byte-at .ensures .1) (c .if5 .taken))))
+returns-4 c =
+    let record-here : Record = search needs in
+    let field : Field = search needs in
+    let prefix : Prefix = search needs in
+    sym (stopped (record-here .before .records .inv) (record-here .records-test .taken)
+    (cut-field _ _ _ (prefix-cut (field .before .fields .inv) (field .fields-test .taken) (prefix .before .if2 .left)
+    (prefix .byte-at .ensures .0) (c .before .if3 .left) (prefix .byte-at .ensures .1) (c .if5 .taken))))
 
 returns-5 : tie.Need-returns-5 Inv-fields μ-fields Inv-records μ-records
-returns-5 c = sym (stopped (c .before .before .before .before .before .before .before .before .before .before .before .before .before .records .inv) (c .before .before .before .before .before .before .before .before .before .before .before .before .records-test .taken)
-    (cut-field _ _ _ (long-cut (c .before .before .before .before .before .before .before .before .before .fields .inv) (c .before .before .before .before .before .before .before .before .fields-test .taken) (c .before .before .before .before .before .before .if2 .left)
-    (c .before .before .before .before .before .byte-at .ensures .0) (c .before .before .before .before .if3 .left) (c .before .before .before .before .before .byte-at .ensures .1) (c .before .before .before .if5 .left)
+returns-5 c =
+    let record-here : Record = search needs in
+    let field : Field = search needs in
+    let prefix : Prefix = search needs in
+    let long : LongPrefix = search needs in
+    sym (stopped (record-here .before .records .inv) (record-here .records-test .taken)
+    (cut-field _ _ _ (long-cut (field .before .fields .inv) (field .fields-test .taken) (prefix .before .if2 .left)
+    (prefix .byte-at .ensures .0) (long .before .if3 .left) (prefix .byte-at .ensures .1) (long .if5 .left)
     (c .before .long-length .ensures .0) (c .if6 .taken))))
 
 pub scan-fields-spec : {M : Type 1} → statement M

@@ -19,7 +19,8 @@ enum-known-layout c = search needs
 
 scan-one-variable-requires : tie.Need-scan-one-variable-requires
 scan-one-variable-requires c κs =
-    (sym (c .before .before .before .layout-of .ensures) ∙ c .before .layout .given .1, c .before .before .before .before .before .before .pre .1)
+    let start : tie.Start = search needs in
+    (sym (c .before .before .before .layout-of .ensures) ∙ c .before .layout .given .1, start .pre .1)
 
 enum-told-2 : tie.Need-enum-told-2
 enum-told-2 c = search needs
@@ -28,8 +29,11 @@ scan-fields-requires : tie.Need-scan-fields-requires
 scan-fields-requires c κs = search needs
 
 returns : tie.Need-returns
-returns c = by-division _ _ _ _ _ _ (fixed-plain _ (sym (c .before .before .before .layout-of .ensures) ∙ c .before .enum-told .given .1))
-    (c .before .before .before .before .before .before .pre .1) (c .before .before .before .before .before .before .pre .2) (c .scan-fixed-body .ensures)
+returns c =
+    let start : tie.Start = search needs in
+    by-division _ _ _ _ _ _
+    (fixed-plain _ (sym (c .before .before .before .layout-of .ensures) ∙ c .before .enum-told .given .1)) (start .pre .1)
+    (start .pre .2) (c .scan-fixed-body .ensures)
 
 returns-2 : tie.Need-returns-2
 returns-2 c = search needs

@@ -1,59 +1,57 @@
-use Prim.Native.Nat.{_-_}
-use native.Mathlib.Omega.{arith}
 use borrow.Author.Needs.{needs}
-use Rattle.areas.proofs.Moves.{MovedDown, none-moved-down, one-moved-down, all-moved-down}
+use Rattle.areas.proofs.Moves.{parts-make-whole}
 use Rattle.areas.proofs.bytes.move_bytes_down.Statement.{statement}
 use Rattle.areas.proofs.bytes.move_bytes_down.Tie as tie
 
-abbrev Inv-loop : tie.InvT-loop
-Inv-loop area₀ from to len done₀ area done = MovedDown area₀ from to len area done
+shift-bytes-down-requires : tie.Need-shift-bytes-down-requires
+shift-bytes-down-requires c κs = search needs
 
-abbrev μ-loop : tie.MeasureT-loop
-μ-loop area₀ from to len done₀ area done = len - done
-
-loop-holds : tie.Need-loop-holds Inv-loop μ-loop
-loop-holds c = search (none-moved-down, needs)
-
-add-area : tie.Need-add-area Inv-loop μ-loop
-add-area c = search needs
-
-slice-read-area : tie.Need-slice-read-area Inv-loop μ-loop
-slice-read-area c = search needs
-
-add-area-2 : tie.Need-add-area-2 Inv-loop μ-loop
-add-area-2 c = search needs
-
-slice-write-area : tie.Need-slice-write-area Inv-loop μ-loop
-slice-write-area c = search needs
-
-add-done : tie.Need-add-done Inv-loop μ-loop
-add-done c = search needs
-
-loop-less : tie.Need-loop-less Inv-loop μ-loop
-loop-less c = search needs
-
-loop-again : tie.Need-loop-again Inv-loop μ-loop
-loop-again c = one-moved-down (c .before .before .loop .inv) (omega arith)
-
-same-length : tie.Need-same-length Inv-loop μ-loop
+same-length : tie.Need-same-length
 same-length c = search needs
 
-returns : tie.Need-returns Inv-loop μ-loop
-returns c = search (all-moved-down, needs)
+returns : tie.Need-returns
+returns c = search needs
+
+sub-lead : tie.Need-sub-lead
+sub-lead c = search needs
+
+shift-bytes-down-requires-2 : tie.Need-shift-bytes-down-requires-2
+shift-bytes-down-requires-2 c κs = search needs
+
+add-shift-bytes-down : tie.Need-add-shift-bytes-down
+add-shift-bytes-down c = search needs
+
+add-shift-bytes-down-2 : tie.Need-add-shift-bytes-down-2
+add-shift-bytes-down-2 c = search needs
+
+sub-shift-bytes-down : tie.Need-sub-shift-bytes-down
+sub-shift-bytes-down c = search needs
+
+shift-bytes-down-requires-3 : tie.Need-shift-bytes-down-requires-3
+shift-bytes-down-requires-3 c κs = search needs
+
+same-length-2 : tie.Need-same-length-2
+same-length-2 c = search needs
+
+returns-2 : tie.Need-returns-2
+returns-2 c =
+    let second : tie.After-shift-bytes-down3 = search needs in
+    let first : tie.After-shift-bytes-down2 = search needs in
+    parts-make-whole _ _ _ _ _ _ _ (first .shift-bytes-down2 .ensures) (search needs) (search needs) (search needs)
+    (second .shift-bytes-down3 .ensures)
 
 pub move-bytes-down-spec : {M : Type 1} → statement M
 move-bytes-down-spec =
     tie.close
     (tie.spec
-    Inv-loop
-    μ-loop
-    loop-holds
-    add-area
-    slice-read-area
-    add-area-2
-    slice-write-area
-    add-done
-    loop-less
-    loop-again
+    shift-bytes-down-requires
     same-length
-    returns)
+    returns
+    sub-lead
+    shift-bytes-down-requires-2
+    add-shift-bytes-down
+    add-shift-bytes-down-2
+    sub-shift-bytes-down
+    shift-bytes-down-requires-3
+    same-length-2
+    returns-2)

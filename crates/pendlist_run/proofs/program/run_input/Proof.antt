@@ -26,11 +26,9 @@ take-turn-requires c κs = search needs
 
 write-rows-requires : tie.Need-write-rows-requires Inv-loop μ-loop
 write-rows-requires c κs =
-    let taken : tie.After-take-turn Inv-loop μ-loop =
-    c .before .before .before .before .before .before .before .before .before in
-    let read : tie.After-read-more Inv-loop μ-loop =
-    taken .before .before .before .before .before .before .before in
-    let top : tie.At-loop Inv-loop μ-loop = read .before .before .before in
+    let taken : tie.After-take-turn Inv-loop μ-loop = search needs in
+    let read : tie.After-read-more Inv-loop μ-loop = search needs in
+    let top : tie.At-loop Inv-loop μ-loop = search needs in
     rows-handed (top .loop .inv .0) (read .read-more .ensures) (taken .take-turn .ensures) (search needs)
 
 same-length : tie.Need-same-length Inv-loop μ-loop
@@ -46,7 +44,11 @@ same-length-4 : tie.Need-same-length-4 Inv-loop μ-loop
 same-length-4 c = search needs
 
 returns : tie.Need-returns Inv-loop μ-loop
-returns c = search (write-failed, needs)
+returns c =
+    let taken : tie.After-take-turn Inv-loop μ-loop = search needs in
+    let read : tie.After-read-more Inv-loop μ-loop = search needs in
+    let top : tie.At-loop Inv-loop μ-loop = search needs in
+    write-failed (top .loop .inv .0) (read .read-more .ensures) (taken .take-turn .ensures)
 
 same-length-5 : tie.Need-same-length-5 Inv-loop μ-loop
 same-length-5 c = search needs
@@ -61,7 +63,11 @@ same-length-8 : tie.Need-same-length-8 Inv-loop μ-loop
 same-length-8 c = search needs
 
 returns-2 : tie.Need-returns-2 Inv-loop μ-loop
-returns-2 c = search (list-bad, needs)
+returns-2 c =
+    let taken : tie.After-take-turn Inv-loop μ-loop = search needs in
+    let read : tie.After-read-more Inv-loop μ-loop = search needs in
+    let top : tie.At-loop Inv-loop μ-loop = search needs in
+    list-bad (top .loop .inv .0) (read .read-more .ensures) (taken .take-turn .ensures) (c .if2 .taken)
 
 same-length-9 : tie.Need-same-length-9 Inv-loop μ-loop
 same-length-9 c = search needs
@@ -76,7 +82,12 @@ same-length-12 : tie.Need-same-length-12 Inv-loop μ-loop
 same-length-12 c = search needs
 
 returns-3 : tie.Need-returns-3 Inv-loop μ-loop
-returns-3 c = search (input-over, needs)
+returns-3 c =
+    let taken : tie.After-take-turn Inv-loop μ-loop = search needs in
+    let read : tie.After-read-more Inv-loop μ-loop = search needs in
+    let top : tie.At-loop Inv-loop μ-loop = search needs in
+    input-over (top .loop .inv .0) (read .read-more .ensures) (taken .take-turn .ensures)
+    (c .before .if2 .left) (c .if3 .taken)
 
 sub-reads : tie.Need-sub-reads Inv-loop μ-loop
 sub-reads c = search needs
@@ -85,7 +96,15 @@ loop-less : tie.Need-loop-less Inv-loop μ-loop
 loop-less c = search needs
 
 loop-again : tie.Need-loop-again Inv-loop μ-loop
-loop-again c = (search (input-goes-on, needs), search needs, search needs)
+loop-again c =
+    let taken : tie.After-take-turn Inv-loop μ-loop = search needs in
+    let read : tie.After-read-more Inv-loop μ-loop = search needs in
+    let top : tie.At-loop Inv-loop μ-loop = search needs in (
+      input-goes-on (top .loop .inv .0) (read .read-more .ensures) (taken .take-turn .ensures)
+          (c .before .if2 .left) (c .if3 .left) (search needs) (search needs),
+      search needs,
+      search needs,
+    )
 
 same-length-13 : tie.Need-same-length-13 Inv-loop μ-loop
 same-length-13 c = search needs

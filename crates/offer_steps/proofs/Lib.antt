@@ -1,0 +1,4 @@
+pub mod HeldBodies
+pub mod PlannedRemoval
+pub mod Rooms
+pub mod Additions

@@ -1,0 +1,11 @@
+// The steps of an offer (pending_flows.rs): removing what is planned, room for the body and the body in it, the header.
+mod removing;
+mod settling;
+mod storing;
+
+pub use removing::remove_planned;
+pub use settling::count_drop;
+pub use settling::held_bodies;
+pub use settling::settle;
+pub use storing::add_body;
+pub use storing::choose_label;

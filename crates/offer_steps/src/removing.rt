@@ -1,0 +1,96 @@
+// Removing what the plan of an offer removes.
+ghost use mathlib.Core.Path.{_≡_};
+ghost use mathlib.Core.Bool.{true};
+ghost use Prim.Native.Nat.{_+_, _≤_};
+ghost use lib.ListN.{length};
+ghost use Rattle.table.specs.Layout.{limitsOf, heldCount, entryCount, chanceCount, recordsAt};
+ghost use Rattle.table.specs.WellFormed.{wellFormed};
+ghost use Rattle.pending_flows.specs.Header.{figuresAt};
+ghost use Rattle.pending_calls.specs.Removal.{Removes};
+ghost use Rattle.offer_plan.specs.Plan.{planTest, skipOf, KeepsAll};
+use config::PendingFlowsConfig;
+use config::Ttl;
+use offer_plan::OfferPlan;
+use offer_plan::skip_planned;
+use pending_calls::Removed;
+use pending_calls::remove;
+use pending_calls::remove_none;
+use pending_calls::remove_whole;
+use pending_flows::HeaderFigures;
+use table::LABELS;
+use table::records_at;
+use table_entries::StayTest;
+
+// The test by which bodies stay.
+fn stay_test(limits: PendingFlowsConfig, clock: u64, plan: OfferPlan) -> StayTest
+    ensures { λ r. ⌜ r ≡ planTest limits clock plan ⌝ }
+{
+    let ttl = limits.ttl;
+    StayTest {
+        ttl,
+        clock,
+        all: plan.all,
+        label: plan.label,
+        max_size: 18446744073709551615,
+    }
+}
+
+// Sweeps by the plan, and closes. The record of the label `apart` goes though its bodies stay. With no time to live,
+// only whole templates go.
+fn remove_some(
+    words: &mut [u64],
+    bytes: &[u8],
+    limits: PendingFlowsConfig,
+    figures: HeaderFigures,
+    plan: OfferPlan,
+    clock: u64,
+    apart: u64,
+) -> Removed
+    requires { ⌜ (wellFormed (now words) (length (now bytes)) ≡ true) × (limits ≡ limitsOf (now words)) ⌝ }
+    requires { ⌜ (figures ≡ figuresAt (now words)) × (plan .evicted ≤ heldCount (now words)) ⌝ }
+    ensures { λ r.
+        ⌜ Removes (planTest (limitsOf (now (words .entry))) clock plan) (recordsAt (limitsOf (now (words .entry))))
+        (heldCount (now (words .entry)) + chanceCount (now (words .entry))) (entryCount (now (words .entry))) apart
+        (skipOf (now (words .entry)) plan) (now (words .entry)) (now (words .exit)) r ⌝ }
+{
+    let mut skip = [0u32; LABELS];
+    skip_planned(words, bytes, limits, figures, plan, &mut skip);
+    let ttl = limits.ttl;
+    let Ttl::After(_) = ttl else {
+        return remove_whole(words, bytes, limits, figures, &mut skip, apart);
+    };
+    let records = (figures.templates + figures.chance) as usize;
+    remove(
+        words,
+        records_at(limits),
+        records,
+        figures.entries as usize,
+        stay_test(limits, clock, plan),
+        &mut skip,
+        apart,
+    )
+}
+
+// Removes what the plan removes. No entry is looked at where it is certain that nothing goes.
+pub fn remove_planned(
+    words: &mut [u64],
+    bytes: &[u8],
+    limits: PendingFlowsConfig,
+    figures: HeaderFigures,
+    plan: OfferPlan,
+    clock: u64,
+    apart: u64,
+) -> Removed
+    requires { ⌜ (wellFormed (now words) (length (now bytes)) ≡ true) × (limits ≡ limitsOf (now words)) ⌝ }
+    requires { ⌜ (figures ≡ figuresAt (now words)) × (plan .evicted ≤ heldCount (now words)) ⌝ }
+    requires { ⌜ KeepsAll (now words) clock plan × (plan .none ≡ true → figures .chance ≡ 0) ⌝ }
+    ensures { λ r.
+        ⌜ Removes (planTest (limitsOf (now (words .entry))) clock plan) (recordsAt (limitsOf (now (words .entry))))
+        (heldCount (now (words .entry)) + chanceCount (now (words .entry))) (entryCount (now (words .entry))) apart
+        (skipOf (now (words .entry)) plan) (now (words .entry)) (now (words .exit)) r ⌝ }
+{
+    if plan.none {
+        return remove_none(words, bytes, limits, figures, apart);
+    }
+    remove_some(words, bytes, limits, figures, plan, clock, apart)
+}

@@ -1,0 +1,2 @@
+pub mod FrontReady
+pub mod Cuts
