@@ -1,6 +1,6 @@
 -- The steps of a drain, with the limits, figures and label as they were read: what each step asks, and what all do.
 -- Assumes nothing.
-use mathlib.Core.Path.{_≡_, sym, ap, subst, _∙_}
+use mathlib.Core.Path.{_≡_, ap}
 use mathlib.Core.Bool.{Bool, true, false}
 use mathlib.Core.List.{List}
 use Prim.Native.Nat.{ℕ, _+_, _*_, _-_, _%_, _^_, _≤_, _<_}
@@ -10,7 +10,7 @@ use Rattle.areas.specs.Overwrite.{overwritten}
 use Rattle.config.specs.declared.PendingFlowsConfig.{PendingFlowsConfig}
 use Rattle.config.specs.Limits.{headerWords, recordWords}
 use Rattle.table.specs.declared.LiveFigures.{LiveFigures}
-use Rattle.table.specs.Layout.{limitsOf, heldCount, chanceCount, entriesAt, recordsAt}
+use Rattle.table.specs.Layout.{limitsOf, entriesAt, recordsAt}
 use Rattle.table.specs.Table.{tableOf, entriesFrom, recordsFrom, indexFrom}
 use Rattle.table.specs.Reads.{labelOf, liveLens, liveFigures, countSum, labelOrNone}
 use Rattle.table.specs.WellFormed.{indexRises, wellFormed}
@@ -21,7 +21,6 @@ use Rattle.cache_model.specs.Calls.{drained}
 use Rattle.pending_flows.specs.declared.header.HeaderFigures.{HeaderFigures}
 use Rattle.pending_flows.specs.Header.{figuresAt, headerOf}
 use Rattle.pending_flows.specs.View.{areasOf, cacheOf}
-use Rattle.pending_flows.proofs.Questions.{first-records}
 use Rattle.pending_flows.proofs.Figures.{handed-few}
 use Rattle.pending_calls.specs.declared.removal.Removed.{Removed}
 use Rattle.pending_calls.specs.Promises.{Does}
@@ -30,7 +29,7 @@ use Rattle.pending_calls.proofs.Removed.{records-within}
 use Rattle.pending_drain.specs.declared.draining.DrainAnswer.the-variants as Drain
 use Rattle.pending_drain.specs.Handing.{TakesOut, HandsOut}
 use Rattle.pending_drain.specs.Promises.{Drains}
-use Rattle.pending_drain.proofs.AsRead.{as-read}
+use Rattle.pending_drain.proofs.AsRead.{as-labelled}
 use Rattle.pending_drain.proofs.TakenOut.{out-tied, out-fewer}
 use Rattle.pending_drain.proofs.Drained.{live-fits, left-few, drain-does}
 
@@ -45,19 +44,6 @@ pub record Settling (entries handed left bytes live : ℕ) (w : List ℕ) : Type
 module _ (w b : List ℕ) (i now : ℕ) (ok : wellFormed w (length b) ≡ true) where
   module _ {l : PendingFlowsConfig} {f : HeaderFigures} {p a : ℕ} (limits : l ≡ limitsOf w) (figures : f ≡ figuresAt w)
       (from : p ≡ recordsAt l) (labelled : a ≡ labelOrNone (labelOf i (recordsFrom w p (f .templates)))) where
-    held-labelled : a ≡ labelFor i (tableOf w .held)
-    held-labelled =
-        labelled
-        ∙ as-read w limits figures from
-        (λ l f p. labelFor i (recordsFrom w p (f .templates)) ≡ labelFor i (tableOf w .held))
-        (ap (labelFor i) (sym (first-records w (recordsAt (limitsOf w)) (heldCount w) (chanceCount w))))
-
-    as-labelled : (T : PendingFlowsConfig → HeaderFigures → ℕ → ℕ → Type 0) →
-        T (limitsOf w) (figuresAt w) (recordsAt (limitsOf w)) (labelFor i (tableOf w .held)) → T l f p a
-    as-labelled T t =
-        as-read w limits figures from (λ l f p. T l f p a)
-        (subst (T (limitsOf w) (figuresAt w) (recordsAt (limitsOf w))) (sym held-labelled) t)
-
     module _ {w₁ : List ℕ} {r : Removed} (out : TakesOut (l .ttl) now a p f w w₁ r) where
       abbrev Ready : ℕ → Type 0
       Ready p =
@@ -65,7 +51,7 @@ module _ (w b : List ℕ) (i now : ℕ) (ok : wellFormed w (length b) ≡ true) 
           (indexRises (recordsFrom w₁ p (r .records)) 0 (indexFrom w₁ p (r .records)) ≡ true)
 
       pub hand-ready : Ready p
-      hand-ready = as-labelled (λ l f p a. TakesOut (l .ttl) now a p f w w₁ r → Ready p) ready out
+      hand-ready = as-labelled w limits figures from i labelled (λ l f p a. TakesOut (l .ttl) now a p f w w₁ r → Ready p) ready out
         where
           legal : LegalWords w (length b)
           legal = words-say w (length b) ok
@@ -94,7 +80,7 @@ module _ (w b : List ℕ) (i now : ℕ) (ok : wellFormed w (length b) ≡ true) 
             m .bytes ≡ liveLens (limitsOf w .ttl) now (labelFor i (tableOf w .held)) (tableOf w .entries) % 2 ^ 64 →
             T (limitsOf w) (figuresAt w) (recordsAt (limitsOf w)) (labelFor i (tableOf w .held))) → T l f p a
         after-hand T t =
-            as-labelled
+            as-labelled w limits figures from i labelled
             (λ l f p a. TakesOut (l .ttl) now a p f w w₁ r → HandsOut p (r .records)
             (record { key = i; label = a; count = r .apart }) w₁ w₂ c →
             m .bytes ≡ liveLens (l .ttl) now a (entriesFrom w entriesAt (f .entries)) % 2 ^ 64 → T l f p a) t out hand

@@ -8,4 +8,5 @@ pub mod HandedRows
 pub mod Drained
 pub mod AsRead
 pub mod NoneTaken
+pub mod SomeTaken
 pub mod Drains

@@ -28,9 +28,9 @@ use Rattle.pending_flows.proofs.Questions.{first-records}
 use Rattle.table_view.proofs.Tied.{words-tied, entries-small, none-above}
 use Rattle.table_view.proofs.AllStay.{none-expired, all-stay, none-skipped}
 use Rattle.pending_calls.specs.declared.removal.Removed.{Removed}
-use Rattle.pending_calls.specs.Removal.{everything, Removes}
+use Rattle.pending_calls.specs.Removal.{everything, unexpired, Removes}
 use Rattle.pending_calls.proofs.NoneRemoved.{removes-alike, entries-short, all-swept-stay}
-use Rattle.pending_drain.specs.Handing.{zeros, unexpired, NothingGoes, TakesOut}
+use Rattle.pending_drain.specs.Handing.{zeros, NothingGoes, TakesOut}
 use Rattle.pending_drain.proofs.AsRead.{as-read}
 use Rattle.pending_drain.proofs.Handing.{taken-out}
 

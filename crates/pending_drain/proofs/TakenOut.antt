@@ -35,9 +35,9 @@ use Rattle.table_view.proofs.Swept.{Within}
 use Rattle.table_view.proofs.Totals.{lens-apart}
 use Rattle.table_view.proofs.Summed.{everything, lenMost}
 use Rattle.pending_calls.specs.declared.removal.Removed.{Removed}
-use Rattle.pending_calls.specs.Removal.{counted, Removes}
+use Rattle.pending_calls.specs.Removal.{unexpired, counted, Removes}
 use Rattle.pending_calls.proofs.Removed.{TiedRowsApart}
-use Rattle.pending_drain.specs.Handing.{zeros, unexpired, TakesOut}
+use Rattle.pending_drain.specs.Handing.{zeros, TakesOut}
 use Rattle.pending_drain.proofs.Handing.{length-zeros}
 use Rattle.pending_drain.proofs.LegalRows.{bodies-within, bodies-short, entries-few, handed-single, held-long}
 use Rattle.pending_drain.proofs.LegalRows.{held-limited, removed-tied, removed-below, removed-bytes}

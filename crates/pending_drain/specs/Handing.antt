@@ -1,7 +1,6 @@
 -- The steps of a drain on the table: what is taken out of the rows, and the record of what is
 -- handed out. They stand here because the contracts of the steps cite them.
 use mathlib.Core.Path.{_≡_}
-use mathlib.Core.Bool.{false}
 use mathlib.Core.List.{List}
 use Prim.Native.Nat.{ℕ, _+_, _*_, _<_}
 use lib.ListN.{replicate}
@@ -9,25 +8,14 @@ use Rattle.config.specs.declared.Ttl.{Ttl}
 use Rattle.config.specs.Limits.{recordWords}
 use Rattle.table.specs.declared.TemplateRecord.{TemplateRecord}
 use Rattle.table.specs.Table.{recordsFrom}
-use Rattle.table_entries.specs.declared.StayTest.{StayTest}
 use Rattle.table_records.specs.Add.{Adds}
 use Rattle.table_records.specs.Choose.{skipping}
 use Rattle.pending_flows.specs.declared.header.HeaderFigures.{HeaderFigures}
 use Rattle.pending_calls.specs.declared.removal.Removed.{Removed}
-use Rattle.pending_calls.specs.Removal.{Removes}
+use Rattle.pending_calls.specs.Removal.{unexpired, Removes}
 
 abbrev pub zeros : List ℕ
 zeros = replicate 1024 0
-
--- the expired bodies of a label go
-abbrev pub unexpired : Ttl → ℕ → ℕ → StayTest
-unexpired ttl clock label = record {
-  ttl = ttl;
-  clock = clock;
-  all = false;
-  label = label;
-  «max_size» = 18446744073709551615;
-}
 
 -- what is handed out already goes, the expired bodies of a label and the label's record; from word p on stand the
 -- records, the handed-out one behind the held ones

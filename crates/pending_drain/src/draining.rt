@@ -3,7 +3,7 @@ ghost use mathlib.Core.Path.{_≡_};
 ghost use mathlib.Core.Bool.{true};
 ghost use Prim.Native.Nat.{_+_, _*_, _-_, _≤_, _<_};
 ghost use lib.ListN.{length};
-ghost use Rattle.config.specs.Limits.{recordWords, entryWords};
+ghost use Rattle.config.specs.Limits.{recordWords};
 ghost use Rattle.table.specs.Layout.{limitsOf, entriesAt, recordsAt};
 ghost use Rattle.table.specs.Table.{tableOf, entriesFrom, recordsFrom, indexFrom};
 ghost use Rattle.table.specs.Reads.{labelOf, labelOrNone, countOf, liveCount};
@@ -17,10 +17,9 @@ ghost use Rattle.pending_drain.specs.Handing.{NothingGoes, TakesOut, Han
 ghost use Rattle.pending_drain.specs.Promises.{Drains};
 use config::PendingFlowsConfig;
 use config::RECORD_WORDS;
-use config::Ttl;
 use pending_calls::Removed;
 use pending_calls::raised;
-use pending_calls::remove;
+use pending_calls::remove_expired;
 use pending_calls::remove_none;
 use pending_flows::HeaderFigures;
 use pending_flows::figures_at;
@@ -33,7 +32,6 @@ use table::label_for;
 use table::limits_at;
 use table::live_figures;
 use table::records_at;
-use table_entries::StayTest;
 use table_promotion::add_record;
 use table_records::skip_records;
 
@@ -61,42 +59,6 @@ fn total_after(left: u64, handed: u64) -> u64
     left - handed
 }
 
-// Removes what is handed out already, the expired bodies of a label and the label's record; its other bodies stay.
-fn take_out(
-    words: &mut [u64],
-    from: usize,
-    figures: HeaderFigures,
-    ttl: Ttl,
-    clock: u64,
-    label: u64,
-) -> Removed
-    requires { ⌜ (entriesAt + entryWords * figures .entries ≤ from) × (from + recordWords * (figures .templates +
-        figures .chance) ≤ length (now words)) ⌝ }
-    requires { ⌜ figures .templates + figures .chance ≤ 1024 ⌝ }
-    ensures { λ r. ⌜ TakesOut ttl clock label from figures (now (words .entry)) (now (words .exit)) r ⌝ }
-{
-    let held = figures.templates as usize;
-    let chance = figures.chance as usize;
-    let test = StayTest {
-        ttl,
-        clock,
-        all: false,
-        label,
-        max_size: 18446744073709551615,
-    };
-    let mut skip = [0; LABELS];
-    skip_records(words, from + RECORD_WORDS * held, chance, &mut skip);
-    remove(
-        words,
-        from,
-        held + chance,
-        figures.entries as usize,
-        test,
-        &mut skip,
-        label,
-    )
-}
-
 // Whether it is certain that no body goes: nothing is handed out, and as many bodies of the id are live as its record
 // counts.
 fn nothing_goes(words: &[u64], from: usize, figures: HeaderFigures, id: u64, live: usize) -> bool
@@ -112,7 +74,8 @@ fn nothing_goes(words: &[u64], from: usize, figures: HeaderFigures, id: u64, liv
     bodies == (live as u64)
 }
 
-// The same as `take_out`, but no entry is moved or summed where nothing goes; live: how many bodies of the label are.
+// Removes what is handed out already, the expired bodies of a label and the label's record; its other bodies, so many
+// as are live, stay. No entry is moved where nothing goes.
 fn take_label(
     words: &mut [u64],
     bytes: &[u8],
@@ -133,8 +96,10 @@ fn take_label(
     if nothing_goes(words, from, figures, id, live) {
         return remove_none(words, bytes, limits, figures, label);
     }
-    let ttl = limits.ttl;
-    take_out(words, from, figures, ttl, clock, label)
+    let handed = from + RECORD_WORDS * (figures.templates as usize);
+    let mut skip = [0u32; LABELS];
+    skip_records(words, handed, figures.chance as usize, &mut skip);
+    remove_expired(words, bytes, limits, figures, clock, &mut skip, label, live)
 }
 
 // Adds the record of what is handed out behind the held ones, if there is a body; whether there is, as the header
