@@ -1,14 +1,16 @@
--- The removal where all bodies of a record go or none, with the limits and the figures that were read: what the records
--- count is what a count of the entries would come to. Assumes nothing.
+-- The removal where all bodies of a record go or none, but for the expired ones of one label, with the limits and the
+-- figures that were read: what the records count is what a count of the entries would come to. Assumes nothing.
 use mathlib.Core.Path.{_≡_, refl, sym, ap, _∙_}
 use mathlib.Core.Bool.{Bool, true, false, cond}
 use mathlib.Core.List.{List}
-use Prim.Native.Nat.{ℕ, _+_, _*_, _-_, _≤_, _<_}
+use Prim.Native.Nat.{ℕ, _+_, _*_, _-_, _^_, _≤_, _<_}
 use native.Mathlib.Omega.{arith}
 use lib.Dec.{eqb}
-use lib.ListN.{length, getD, drop, length-drop, length-replicate, getD-replicate}
-use lib.Seq.{ext-getD}
-use borrow.Author.Tests.{eqb-true, eqb-false}
+use native.Mathlib.Decide.{ℕ-discrete}
+use lib.ListN.{length, getD, set, drop, length-drop, length-set, length-replicate, getD-replicate}
+use lib.Seq.{ext-getD, getD-set-same, getD-set-other}
+use borrow.Author.Tests.{eqb-true, eqb-false, ne-eqb, le-leb}
+use Rattle.config.specs.declared.Ttl.{Ttl}
 use Rattle.config.specs.declared.PendingFlowsConfig.{PendingFlowsConfig}
 use Rattle.config.specs.Limits.{entryWords}
 use Rattle.config.proofs.Lists.{All, all-both}
@@ -30,17 +32,30 @@ use Rattle.table_records.specs.Whole.{wholeCount, wholeCounts}
 use Rattle.table_records.proofs.Skips.{length-each, each-at}
 use Rattle.pending_flows.specs.declared.header.HeaderFigures.{HeaderFigures}
 use Rattle.pending_flows.specs.Header.{figuresAt}
-use Rattle.pending_flows.specs.View.{bodiesAt}
+use Rattle.cache_model.specs.Bodies.{keep}
+use Rattle.cache_model.proofs.Weights.{keep-true}
+use Rattle.pending_flows.specs.View.{bodyAt, bodiesAt}
 use Rattle.pending_flows.proofs.Templates.{length-bodies}
-use Rattle.table_view.proofs.Swept.{Within, placed-within, swept-tally}
+use Rattle.table_view.proofs.Swept.{bodyStays, Within, placed-within, body-size, keep-alike, swept-tally}
 use Rattle.table_view.proofs.Summed.{lenMost, everything-stays}
 use Rattle.table_view.proofs.Removed.{label-counts}
 use Rattle.pending_calls.specs.declared.removal.Removed.{Removed}
-use Rattle.pending_calls.specs.Removal.{everything, counted, ClosesApart, SkipsWhole, Removes}
+use Rattle.pending_calls.specs.Removal.{everything, unexpired, counted, ClosesApart, SkipsWhole, Removes}
 use Rattle.pending_calls.proofs.Removals.{removal-done}
 use Rattle.pending_calls.proofs.Removed.{TiedRows, rows-tied, rows-placed, few-bodies, entries-below-records}
 use Rattle.pending_calls.proofs.Removed.{records-within}
 use Rattle.pending_calls.proofs.NoneRemoved.{entries-short}
+
+-- where the expired bodies of one label go, all bodies of another stay
+pub others-stay : (b : List ℕ) (ttl : Ttl) (now a : ℕ) (es : List Entry) → Within (length b) es →
+    All (λ e. e .len ≤ lenMost) es → (k : ℕ) → (a ≡ k → ⊥) →
+    keep (bodyStays (unexpired ttl now a) k) (bodiesAt b k es) ≡ bodiesAt b k es
+unfolding bodyStays
+others-stay b ttl now a es within short k d =
+    keep-alike b (bodyStays (unexpired ttl now a) k) (λ x. true) k es
+    (all-both _ _ (λ e. bodyStays (unexpired ttl now a) k (bodyAt b e) ≡ true)
+    (λ e x y. rw (ne-eqb a k d, body-size b e x) (le-leb (e .len) lenMost y)) es within short)
+    ∙ keep-true (bodiesAt b k es)
 
 module _ (w b : List ℕ) (ok : wellFormed w (length b) ≡ true) {skip : List ℕ} (skips : SkipsWhole skip (records w))
   where
@@ -49,9 +64,6 @@ module _ (w b : List ℕ) (ok : wellFormed w (length b) ≡ true) {skip : List �
 
     abbrev es : List Entry
     es = entriesFrom w entriesAt (entryCount w)
-
-    abbrev stay : List Entry
-    stay = swept everything skip es
 
     rows : TiedRows (recordsAt (limitsOf w)) (heldCount w + chanceCount w) (entryCount w) w
     rows = rows-tied w (length b) legal
@@ -68,22 +80,11 @@ module _ (w b : List ℕ) (ok : wellFormed w (length b) ≡ true) {skip : List �
     few : length es ≤ 4294967295
     few = omega (arith, length-entries w entriesAt (entryCount w), few-bodies w (length b) legal)
 
-    -- how many entries of a label stay
+    -- how many entries of a label are not skipped
     abbrev rest : ℕ → ℕ
     rest k = tally k es - getD skip k 0
 
-    label-rest : (k : ℕ) → k < 1024 → tally k stay ≡ rest k
-    label-rest k small =
-        let bs = bodiesAt b k es in
-        omega (
-          arith,
-          swept-tally b everything k skip es (omega (arith, skips .long)) within
-              ∙ ap (λ xs. length (drop (getD skip k 0) xs)) (everything-stays b k es within short),
-          length-drop (getD skip k 0) bs,
-          length-bodies b k es,
-        )
-
-    -- a record counts them, or none stays
+    -- a record counts them, or there is none
     record-rest : (r : TemplateRecord) → r .count ≡ tally (r .label) es →
         (0 < getD skip (r .label) 0 → r .count ≤ getD skip (r .label) 0) →
         wholeCount (getD skip (r .label) 0) (r .count) ≡ rest (r .label)
@@ -98,15 +99,23 @@ module _ (w b : List ℕ) (ok : wellFormed w (length b) ≡ true) {skip : List �
             let d : getD skip (r .label) 0 ≡ 0 → ⊥ = eqb-false (getD skip (r .label) 0) 0 e in omega arith in
             rw e (omega (arith, whole some))
 
-    label-kept : (k : ℕ) → k < 1024 → getD (wholeCounts skip zeros (records w)) k 0 ≡ tally k stay
-    label-kept k small =
+    -- what the records tell
+    abbrev told : List ℕ
+    told = wholeCounts skip zeros (records w)
+
+    told-long : length told ≡ 1024
+    told-long =
+        length-each (λ r. wholeCount (getD skip (r .label) 0) (r .count)) zeros (records w)
+        ∙ length-replicate {A = ℕ} 1024 0
+
+    label-told : (k : ℕ) → k < 1024 → getD told k 0 ≡ rest k
+    label-told k small =
         each-at k (λ r. wholeCount (getD skip (r .label) 0) (r .count)) (rest k) zeros (records w)
         (omega (arith, length-replicate {A = ℕ} 1024 0))
         (all-both _ _ (λ r. k ≡ r .label → wholeCount (getD skip (r .label) 0) (r .count) ≡ rest k)
         (λ r right whole e. record-rest r right whole ∙ ap rest (sym e)) (records w) (rows .counts-right)
         (skips .whole))
         ∙ by-label (hasLabel k (records w)) refl
-        ∙ sym (label-rest k small)
       where
         by-label : (t : Bool) → hasLabel k (records w) ≡ t → cond t (rest k) (getD zeros k 0) ≡ rest k
         by-label true e = refl
@@ -117,16 +126,53 @@ module _ (w b : List ℕ) (ok : wellFormed w (length b) ≡ true) {skip : List �
               absent-tally k (records w) es (absent-says k (records w) e) (rows .labels-known),
             )
 
-    counted-whole : wholeCounts skip zeros (records w) ≡ counted stay
+    module _ (q : StayTest) where
+      abbrev stay : List Entry
+      stay = swept q skip es
+
+      -- of a label whose bodies all stay by themselves
+      label-kept : (k : ℕ) → k < 1024 → keep (bodyStays q k) (bodiesAt b k es) ≡ bodiesAt b k es →
+          getD told k 0 ≡ tally k stay
+      label-kept k small all =
+          let bs = bodiesAt b k es in
+          omega (
+            arith,
+            label-told k small,
+            swept-tally b q k skip es (omega (arith, skips .long)) within
+                ∙ ap (λ xs. length (drop (getD skip k 0) xs)) all,
+            length-drop (getD skip k 0) bs,
+            length-bodies b k es,
+          )
+
+      counted-by : (kept : List ℕ) → length kept ≡ 1024 → ((k : ℕ) → k < 1024 → getD kept k 0 ≡ tally k stay) →
+          kept ≡ counted stay
+      counted-by kept long each =
+          ext-getD 0 kept (counted stay)
+          (long ∙ sym (length-summed everything false zeros stay ∙ length-replicate {A = ℕ} 1024 0))
+          (λ k h. each k (omega arith)
+          ∙ sym (label-counts stay (omega (arith, few, length-swept q skip es))
+          (all-swept (λ e. e .len ≤ lenMost) q skip es short) k (omega arith)))
+
+    counted-whole : told ≡ counted (swept everything skip es)
     counted-whole =
-        let all : length zeros ≡ 1024 = length-replicate {A = ℕ} 1024 0 in
-        let long : length (wholeCounts skip zeros (records w)) ≡ 1024 =
-        length-each (λ r. wholeCount (getD skip (r .label) 0) (r .count)) zeros (records w) ∙ all in
-        ext-getD 0 (wholeCounts skip zeros (records w)) (counted stay)
-        (long ∙ sym (length-summed everything false zeros stay ∙ all))
-        (λ k h. label-kept k (omega arith)
-        ∙ sym (label-counts stay (omega (arith, few, length-swept everything skip es))
-        (all-swept (λ e. e .len ≤ lenMost) everything skip es short) k (omega arith)))
+        counted-by everything told told-long
+        (λ k small. label-kept everything k small (everything-stays b k es within short))
+
+    -- the label whose expired bodies go is told by itself
+    counted-but : (ttl : Ttl) (now a live : ℕ) → live ≡ tally a (swept (unexpired ttl now a) skip es) →
+        set told a live ≡ counted (swept (unexpired ttl now a) skip es)
+    counted-but ttl now a live stays =
+        counted-by (unexpired ttl now a) (set told a live) (length-set told a live ∙ told-long)
+        (λ k small. by-label k small (ℕ-discrete k a))
+      where
+        by-label : (k : ℕ) → k < 1024 → Dec (k ≡ a) → getD (set told a live) k 0
+            ≡ tally k (swept (unexpired ttl now a) skip es)
+        by-label k small (yes d) =
+            rw d (getD-set-same told a live 0 (omega (arith, told-long)) ∙ stays)
+        by-label k small (no d) =
+            getD-set-other told a k live 0 d
+            ∙ label-kept (unexpired ttl now a) k small
+            (others-stay b ttl now a es within short k (λ e. d (sym e)))
 
     -- from the steps of the code
     pub sweep-room : {f : HeaderFigures} → f ≡ figuresAt w →
@@ -136,15 +182,48 @@ module _ (w b : List ℕ) (ok : wellFormed w (length b) ≡ true) {skip : List �
         let inside = records-within w (length b) legal in
         (rw figures (omega arith), skips .long)
 
+    -- how many of a label are told to stay
+    module _ (apart : ℕ) {f : HeaderFigures} (figures : f ≡ figuresAt w) (ttl : Ttl) (now live : ℕ)
+        (stays : live ≡ tally apart (swept (unexpired ttl now apart) skip (entriesFrom w entriesAt (f .entries)))) where
+      stays-read : live ≡ tally apart (swept (unexpired ttl now apart) skip es)
+      stays-read = rw figures at stays
+
+      pub live-small : live < 2 ^ 32
+      live-small =
+          omega (
+            arith,
+            stays-read,
+            tally-most apart (swept (unexpired ttl now apart) skip es),
+            length-swept (unexpired ttl now apart) skip es,
+            few,
+          )
+
     module _ (apart : ℕ) {f : HeaderFigures} {l : PendingFlowsConfig} {p : ℕ} (figures : f ≡ figuresAt w)
-        (limits : l ≡ limitsOf w) (from : p ≡ recordsAt l) {q : StayTest} {kept w₁ w′ : List ℕ} {left : Kept}
-        {r : Removed} where
-      pub whole-removed : kept ≡ wholeCounts skip zeros (recordsFrom w p (f .templates + f .chance)) →
-          q ≡ everything → Sweeps q (f .entries) skip w w₁ left →
+        (limits : l ≡ limitsOf w) (from : p ≡ recordsAt l) {kept₀ kept w₁ w′ : List ℕ} {left : Kept} {r : Removed}
+        (counts : kept₀ ≡ wholeCounts skip zeros (recordsFrom w p (f .templates + f .chance))) where
+      removed-by : (q : StayTest) → (kept₀ ≡ told → kept ≡ counted (swept q skip es)) →
+          Sweeps q (f .entries) skip w w₁ left →
+          ClosesApart p (f .templates + f .chance) apart left kept w₁ w′ r → length w′ ≡ length w →
+          Removes q (recordsAt (limitsOf w)) (heldCount w + chanceCount w) (entryCount w) apart skip w w′ r
+      removed-by q right s c long =
+          removal-done q (recordsAt (limitsOf w)) (heldCount w + chanceCount w) (entryCount w) apart skip w w₁
+          w′ kept left r (entries-below-records w (length b) legal, records-within w (length b) legal)
+          (rw figures at s) (right (rw (from, limits, figures) at counts)) (rw (from, limits, figures) at c) long
+
+      pub whole-removed : {q : StayTest} → q ≡ everything → kept ≡ kept₀ → Sweeps q (f .entries) skip w w₁ left →
           ClosesApart p (f .templates + f .chance) apart left kept w₁ w′ r → length w′ ≡ length w →
           Removes everything (recordsAt (limitsOf w)) (heldCount w + chanceCount w) (entryCount w) apart skip w w′ r
-      whole-removed counts all s c long =
-          removal-done everything (recordsAt (limitsOf w)) (heldCount w + chanceCount w) (entryCount w) apart skip w w₁
-          w′ kept left r (entries-below-records w (length b) legal, records-within w (length b) legal)
-          (rw (all, figures) at s) ((rw (from, limits, figures) at counts) ∙ counted-whole)
-          (rw (from, limits, figures) at c) long
+      whole-removed all same s c long =
+          removed-by everything (λ is. same ∙ is ∙ counted-whole) (rw all at s) c long
+
+      pub expired-removed : (ttl : Ttl) (now live : ℕ) →
+          live ≡ tally apart (swept (unexpired ttl now apart) skip (entriesFrom w entriesAt (f .entries))) →
+          kept ≡ set kept₀ apart live → Sweeps (unexpired ttl now apart) (f .entries) skip w w₁ left →
+          ClosesApart p (f .templates + f .chance) apart left kept w₁ w′ r → length w′ ≡ length w →
+          Removes (unexpired ttl now apart) (recordsAt (limitsOf w)) (heldCount w + chanceCount w) (entryCount w) apart
+          skip w w′ r
+      expired-removed ttl now live stays same s c long =
+          removed-by (unexpired ttl now apart)
+          (λ is. same ∙ ap (λ (xs : List ℕ). set xs apart live) is
+          ∙ counted-but ttl now apart live (stays-read apart figures ttl now live stays))
+          s c long

@@ -4,6 +4,7 @@ use mathlib.Core.Bool.{false}
 use mathlib.Core.List.{List}
 use Prim.Native.Nat.{ℕ, _+_, _*_, _≤_, _<_}
 use lib.ListN.{length, getD, set, replicate, take, drop}
+use Rattle.config.specs.declared.Ttl.{Ttl}
 use Rattle.config.specs.declared.Ttl.the-variants.{None}
 use Rattle.config.specs.Limits.{recordWords}
 use Rattle.config.proofs.Lists.{All}
@@ -21,6 +22,16 @@ use Rattle.pending_calls.specs.declared.removal.Removed.{Removed}
 -- every entry stays by this test
 abbrev pub everything : StayTest
 everything = record { ttl = None; clock = 0; all = false; label = 1024; «max_size» = 18446744073709551615 }
+
+-- the expired bodies of a label go
+abbrev pub unexpired : Ttl → ℕ → ℕ → StayTest
+unexpired ttl clock label = record {
+  ttl = ttl;
+  clock = clock;
+  all = false;
+  label = label;
+  «max_size» = 18446744073709551615;
+}
 
 -- how many bodies each label has; and the same with none for one label
 abbrev pub counted : List Entry → List ℕ

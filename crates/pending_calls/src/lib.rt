@@ -8,6 +8,7 @@ pub use clearing::clear;
 pub use counters::raised;
 pub use removal::Removed;
 pub use removal::remove;
+pub use removal::remove_expired;
 pub use removal::remove_none;
 pub use removal::remove_whole;
 pub use removal::stay_all;

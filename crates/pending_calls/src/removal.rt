@@ -5,10 +5,11 @@ ghost use Prim.Native.Nat.{_+_, _*_, _≤_};
 ghost use lib.ListN.{length, replicate};
 ghost use Rattle.config.specs.Limits.{recordWords, entryWords};
 ghost use Rattle.table.specs.Layout.{limitsOf, heldCount, entryCount, chanceCount, entriesAt, recordsAt};
-ghost use Rattle.table.specs.Table.{records};
+ghost use Rattle.table.specs.Table.{entriesFrom, records, tally};
 ghost use Rattle.table.specs.WellFormed.{wellFormed};
+ghost use Rattle.table_entries.specs.Sweep.{swept};
 ghost use Rattle.pending_flows.specs.Header.{figuresAt};
-ghost use Rattle.pending_calls.specs.Removal.{everything, ClosesApart, SkipsWhole, Removes};
+ghost use Rattle.pending_calls.specs.Removal.{everything, unexpired, ClosesApart, SkipsWhole, Removes};
 use config::PendingFlowsConfig;
 use config::Ttl;
 use pending_flows::HeaderFigures;
@@ -115,6 +116,44 @@ pub fn remove_whole(
     // before the sweep, which spends what is to be skipped
     count_whole(words, from, records, skip, &mut kept);
     let left = sweep(words, figures.entries as usize, stay_all(), skip);
+    close_apart(words, from, records, left, &mut kept, apart)
+}
+
+// The same, but expired bodies of the label `apart` go too, and `live` is how many of it stay.
+pub fn remove_expired(
+    words: &mut [u64],
+    bytes: &[u8],
+    limits: PendingFlowsConfig,
+    figures: HeaderFigures,
+    clock: u64,
+    skip: &mut [u32; LABELS],
+    apart: u64,
+    live: usize,
+) -> Removed
+    requires { ⌜ (wellFormed (now words) (length (now bytes)) ≡ true) × (limits ≡ limitsOf (now words)) ⌝ }
+    requires { ⌜ (figures ≡ figuresAt (now words)) × SkipsWhole (now skip) (records (now words)) ⌝ }
+    requires { ⌜ live ≡ tally apart (swept (unexpired (limits .ttl) clock apart) (now skip) (entriesFrom (now words)
+        entriesAt (figures .entries))) ⌝ }
+    ensures { λ r.
+        ⌜ Removes (unexpired (limits .ttl) clock apart) (recordsAt (limitsOf (now (words .entry)))) (heldCount
+        (now (words .entry)) + chanceCount (now (words .entry))) (entryCount (now (words .entry))) apart
+        (now (skip .entry)) (now (words .entry)) (now (words .exit)) r ⌝ }
+{
+    let from = records_at(limits);
+    let records = (figures.templates + figures.chance) as usize;
+    let ttl = limits.ttl;
+    let test = StayTest {
+        ttl,
+        clock,
+        all: false,
+        label: apart,
+        max_size: 18446744073709551615,
+    };
+    let mut kept = [0u32; LABELS];
+    // before the sweep, which spends what is to be skipped
+    count_whole(words, from, records, skip, &mut kept);
+    set_sum(&mut kept, apart, live as u32);
+    let left = sweep(words, figures.entries as usize, test, skip);
     close_apart(words, from, records, left, &mut kept, apart)
 }
 

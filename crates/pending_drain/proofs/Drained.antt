@@ -3,7 +3,7 @@ use mathlib.Core.Path.{_≡_, ap, _∙_}
 use mathlib.Core.Bool.{true, not}
 use mathlib.Core.List.{List}
 use mathlib.Core.Option.{some}
-use Prim.Native.Nat.{ℕ, _+_, _*_, _-_, _≤_, _<_}
+use Prim.Native.Nat.{ℕ, _+_, _*_, _-_, _%_, _^_, _≤_, _<_}
 use native.Mathlib.Omega.{arith}
 use lib.ListN.{length, take, drop}
 use Rattle.config.specs.Limits.{recordWords, wordsNeeded}
@@ -12,12 +12,11 @@ use Rattle.table.specs.declared.Entry.{Entry}
 use Rattle.table.specs.Layout.{limitsOf, cachedWord, droppedWord, heldCount, entryCount, chanceCount, entriesAt}
 use Rattle.table.specs.Layout.{recordsAt}
 use Rattle.table.specs.Table.{tableOf, entriesFrom, recordsFrom, sumLens}
-use Rattle.table.specs.Reads.{countSum}
+use Rattle.table.specs.Reads.{liveLens, countSum}
 use Rattle.table.specs.WellFormed.{wellFormed}
 use Rattle.table.proofs.Words.{length-entries}
 use Rattle.table.proofs.Facts.{Placed, LegalWords, words-say}
 use Rattle.table.proofs.FoundLabels.{labelFor}
-use Rattle.table_entries.specs.Sums.{heldSum}
 use Rattle.cache_model.specs.Bodies.{Body, Template, expired, keep, allBodies, bodiesOf, without}
 use Rattle.cache_model.specs.Cache.{Cache, raised, chanceOf, count}
 use Rattle.cache_model.specs.Calls.{drained}
@@ -35,7 +34,6 @@ use Rattle.pending_calls.specs.declared.removal.Removed.{Removed}
 use Rattle.pending_calls.specs.Promises.{Does}
 use Rattle.pending_calls.proofs.Headers.{headed}
 use Rattle.pending_drain.specs.Handing.{TakesOut, HandsOut}
-use Rattle.pending_drain.proofs.HeldTotals.{held-total}
 use Rattle.pending_drain.proofs.TakenOut as Out
 use Rattle.pending_drain.proofs.HandedRows.{HandedRows, rows-handed}
 use Rattle.pending_drain.proofs.Written.{written-frame, written-view}
@@ -77,12 +75,6 @@ module _ (w b : List ℕ) (i now : ℕ) where
       placed : Placed 0 (limitsOf w .«max_total_bytes») es
       placed = rw (rows .entries) (Out.out-placed w b i now legal taken)
 
-      pub bytes-fit : (out : ℕ) → heldSum out es ≤ 18446744073709551615
-      bytes-fit out = rw (rows .entries) (Out.out-fits w b i now legal taken out)
-
-      total-right : heldSum label es ≡ sumLens (recordsFrom w₂ p (r .records)) es
-      total-right = rw (rows .entries, rows .held) (held-total (Out.out-tied w b i now legal taken))
-
       -- as many entries are left as the cache then has bodies
       left-counted : r .entries ≡ length (allBodies (without i (cache .held))) + length live
       left-counted =
@@ -101,7 +93,17 @@ module _ (w b : List ℕ) (i now : ℕ) where
             Out.out-count w b i now legal taken,
           )
 
-      module _ {h : ℕ} (handed : h ≡ countSum (tableOf w .handed)) where
+      module _ {h m : ℕ} (handed : h ≡ countSum (tableOf w .handed))
+          (live-long : m ≡ liveLens (limitsOf w .ttl) now label (tableOf w .entries) % 2 ^ 64) where
+        bytes-are : r .bytes ≡ sumLens (recordsFrom w₂ p (r .records)) es + m
+        bytes-are = rw (rows .entries, rows .held) (Out.out-total w b i now legal taken live-long)
+
+        pub live-fits : m ≤ r .bytes
+        live-fits = omega (arith, bytes-are)
+
+        total-right : r .bytes - m ≡ sumLens (recordsFrom w₂ p (r .records)) es
+        total-right = omega (arith, bytes-are)
+
         dropped-counted : length old + r .entries + h ≡ entryCount w
         dropped-counted =
             omega (
@@ -119,7 +121,7 @@ module _ (w b : List ℕ) (i now : ℕ) where
         figures = record {
           cached = cachedWord w;
           dropped = raised (droppedWord w) (entryCount w - h - r .entries);
-          total = heldSum label es;
+          total = r .bytes - m;
           templates = r .records;
           entries = r .entries;
           chance = c;

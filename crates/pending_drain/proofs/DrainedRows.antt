@@ -16,8 +16,9 @@ use Rattle.config.proofs.Lists.{All, all-map, all-both, all-front, all-back}
 use Rattle.table.specs.declared.Entry.{Entry}
 use Rattle.table.specs.declared.TemplateRecord.{TemplateRecord}
 use Rattle.table.specs.Table.{hasLabel, tally}
+use Rattle.table.specs.Reads.{liveCount, liveLens}
 use Rattle.table.proofs.Facts.{Differ, differ-front}
-use Rattle.table.proofs.Labels.{own-labels, labels-apart}
+use Rattle.table.proofs.Labels.{own-labels, labels-apart, tally-most}
 use Rattle.table.proofs.FoundLabels.{labelFor, found-has, found-alone}
 use Rattle.table_entries.specs.declared.StayTest.{StayTest}
 use Rattle.table_entries.specs.Sweep.{swept}
@@ -26,22 +27,25 @@ use Rattle.table_records.specs.Close.{closed}
 use Rattle.table_records.specs.Choose.{skipAll, skipping}
 use Rattle.table_records.proofs.Skips.{length-skipping, skipping-at}
 use Rattle.table_records.proofs.Closed.{closed-all}
-use Rattle.cache_model.specs.Bodies.{Body, Template, expired, keep, bodiesOf, without}
+use Rattle.cache_model.specs.Bodies.{Body, Template, size, expired, keep, bodiesOf, sumBodies, without}
 use Rattle.cache_model.proofs.Parts as Parts
 use Rattle.cache_model.proofs.Parts.{length-without}
 use Rattle.cache_model.proofs.Lists.{length-part}
 use Rattle.cache_model.proofs.Thinning.{without-thinned}
 use Rattle.pending_flows.specs.View.{bodiesAt, templatesAt}
-use Rattle.pending_flows.proofs.Templates.{length-bodies, length-templates, no-bodies}
+use Rattle.pending_flows.proofs.Templates.{length-bodies, live-bodies, length-templates, no-bodies}
 use Rattle.pending_flows.proofs.Templates.{found-bodies}
 use Rattle.table_view.proofs.Tied.{Tied, entries-small, none-above}
 use Rattle.table_view.proofs.Swept.{bodyStays, Within, swept-bodies}
 use Rattle.table_view.proofs.Removed.{labelCounts, labelCountsBut, label-counts, none-set}
+use Rattle.table_view.proofs.Totals.{live-lens}
 use Rattle.table_view.proofs.Closed.{Left, closed-templates, closed-append, closed-none}
 use Rattle.table_view.proofs.Summed.{lenMost}
-use Rattle.pending_drain.specs.Handing.{zeros, unexpired}
+use Rattle.pending_calls.specs.Removal.{unexpired, SkipsWhole}
+use Rattle.pending_calls.proofs.WholeRemoved.{others-stay}
+use Rattle.pending_drain.specs.Handing.{zeros}
 use Rattle.pending_drain.proofs.Handing.{length-zeros}
-use Rattle.pending_drain.proofs.Staying.{others-stay, live-stay, kept-few}
+use Rattle.pending_drain.proofs.Staying.{live-stay, kept-few}
 
 module _ (b : List ℕ) (ttl : Ttl) (i now : ℕ) (held handed : List TemplateRecord) (es : List Entry) where
   -- the label of the id, which bodies stay, the entries that are left, and how many each other label has left
@@ -73,6 +77,22 @@ module _ (b : List ℕ) (ttl : Ttl) (i now : ℕ) (held handed : List TemplateRe
     skip-at k small =
         skipping-at k zeros handed (omega (arith, length-zeros))
         ∙ ap (cond (hasLabel k handed) skipAll) (getD-replicate {A = ℕ} 1024 k 0 0 small)
+
+    -- of each record all bodies are skipped, or none
+    pub drained-whole : SkipsWhole skip (held ++ handed)
+    drained-whole = record {
+      long = length-skipping zeros handed ∙ length-zeros;
+      whole = all-both (λ r. r .label < 1024) (λ r. r .count ≡ tally (r .label) es)
+          (λ r. (0 < getD skip (r .label) 0 → r .count ≤ getD skip (r .label) 0))
+          (λ r small right. by-label r right (hasLabel (r .label) handed) (skip-at (r .label) small)) (held ++ handed)
+          (tied .labels-small) (tied .counts-right);
+    }
+      where
+        by-label : (r : TemplateRecord) → r .count ≡ tally (r .label) es → (x : Bool) →
+            getD skip (r .label) 0 ≡ cond x skipAll 0 → (0 < getD skip (r .label) 0 → r .count
+            ≤ getD skip (r .label) 0)
+        by-label r right true e some = omega (arith, tally-most (r .label) es)
+        by-label r right false e some = absurd (omega arith)
 
     bodies-left : (k : ℕ) → k < 1024 → (n : ℕ) → cond (hasLabel k handed) skipAll 0 ≡ n →
         bodiesAt b k left ≡ drop n (keep (bodyStays test k) (bodiesAt b k es))
@@ -211,6 +231,18 @@ module _ (b : List ℕ) (ttl : Ttl) (i now : ℕ) (held handed : List TemplateRe
     -- as many as are counted
     pub drained-count : tally label left ≡ length live
     drained-count = sym (length-bodies b label left) ∙ ap length drained-live
+
+    pub drained-live-count : liveCount ttl now label es ≡ tally label left
+    drained-live-count =
+        live-bodies b ttl now label es
+        ∙ ap (λ (bs : List Body). length (keep (λ x. not (expired ttl now x)) bs)) (sym bodies-of)
+        ∙ sym drained-count
+
+    -- and as long
+    pub drained-lens : sumBodies size (bodiesAt b label left) ≡ liveLens ttl now label es
+    drained-lens =
+        ap (sumBodies size) (drained-live ∙ ap (keep (λ x. not (expired ttl now x))) bodies-of)
+        ∙ sym (live-lens b ttl now label es within)
 
     -- a body that is left has a label
     pub drained-small : 0 < tally label left → label < 1024

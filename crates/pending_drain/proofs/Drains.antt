@@ -1,27 +1,26 @@
 -- The steps of a drain, with the limits, figures and label as they were read: what each step asks, and what all do.
 -- Assumes nothing.
-use mathlib.Core.Path.{_≡_, sym, ap, subst, _∙_}
+use mathlib.Core.Path.{_≡_, ap}
 use mathlib.Core.Bool.{Bool, true, false}
 use mathlib.Core.List.{List}
-use Prim.Native.Nat.{ℕ, _+_, _*_, _-_, _≤_, _<_}
+use Prim.Native.Nat.{ℕ, _+_, _*_, _-_, _%_, _^_, _≤_, _<_}
 use native.Mathlib.Omega.{arith}
 use lib.ListN.{length}
 use Rattle.areas.specs.Overwrite.{overwritten}
 use Rattle.config.specs.declared.PendingFlowsConfig.{PendingFlowsConfig}
-use Rattle.config.specs.Limits.{headerWords, recordWords, entryWords}
-use Rattle.table.specs.Layout.{limitsOf, heldCount, chanceCount, entriesAt, recordsAt}
+use Rattle.config.specs.Limits.{headerWords, recordWords}
+use Rattle.table.specs.declared.LiveFigures.{LiveFigures}
+use Rattle.table.specs.Layout.{limitsOf, entriesAt, recordsAt}
 use Rattle.table.specs.Table.{tableOf, entriesFrom, recordsFrom, indexFrom}
-use Rattle.table.specs.Reads.{labelOf, countSum, labelOrNone}
+use Rattle.table.specs.Reads.{labelOf, liveLens, liveFigures, countSum, labelOrNone}
 use Rattle.table.specs.WellFormed.{indexRises, wellFormed}
 use Rattle.table.proofs.Facts.{LegalWords, words-say}
 use Rattle.table.proofs.FoundLabels.{labelFor}
-use Rattle.table_entries.specs.Sums.{heldSum}
 use Rattle.cache_model.specs.Cache.{raised, count}
 use Rattle.cache_model.specs.Calls.{drained}
 use Rattle.pending_flows.specs.declared.header.HeaderFigures.{HeaderFigures}
 use Rattle.pending_flows.specs.Header.{figuresAt, headerOf}
 use Rattle.pending_flows.specs.View.{areasOf, cacheOf}
-use Rattle.pending_flows.proofs.Questions.{first-records}
 use Rattle.pending_flows.proofs.Figures.{handed-few}
 use Rattle.pending_calls.specs.declared.removal.Removed.{Removed}
 use Rattle.pending_calls.specs.Promises.{Does}
@@ -30,34 +29,21 @@ use Rattle.pending_calls.proofs.Removed.{records-within}
 use Rattle.pending_drain.specs.declared.draining.DrainAnswer.the-variants as Drain
 use Rattle.pending_drain.specs.Handing.{TakesOut, HandsOut}
 use Rattle.pending_drain.specs.Promises.{Drains}
-use Rattle.pending_drain.proofs.AsRead.{as-read}
-use Rattle.pending_drain.proofs.TakenOut.{out-tied, out-below, out-fewer}
-use Rattle.pending_drain.proofs.Drained.{bytes-fit, left-few, drain-does}
+use Rattle.pending_drain.proofs.AsRead.{as-labelled}
+use Rattle.pending_drain.proofs.TakenOut.{out-tied, out-fewer}
+use Rattle.pending_drain.proofs.Drained.{live-fits, left-few, drain-does}
 
--- what is asked before the header is written: of so many entries some were handed out before, and some are left
-pub record Settling (entries handed left : ℕ) (w : List ℕ) : Type 0 where
+-- what is asked before the header is written: of so many entries some were handed out before, and some are left, of so
+-- many bytes, some of them live
+pub record Settling (entries handed left bytes live : ℕ) (w : List ℕ) : Type 0 where
   pub less-handed : handed ≤ entries
   pub less-left : left ≤ entries - handed
-  pub entries-fit : entriesAt + entryWords * left ≤ length w
-  pub bytes-fit : (out : ℕ) → heldSum out (entriesFrom w entriesAt left) ≤ 18446744073709551615
+  pub less-live : live ≤ bytes
   pub header-fits : headerWords ≤ length w
 
 module _ (w b : List ℕ) (i now : ℕ) (ok : wellFormed w (length b) ≡ true) where
   module _ {l : PendingFlowsConfig} {f : HeaderFigures} {p a : ℕ} (limits : l ≡ limitsOf w) (figures : f ≡ figuresAt w)
       (from : p ≡ recordsAt l) (labelled : a ≡ labelOrNone (labelOf i (recordsFrom w p (f .templates)))) where
-    held-labelled : a ≡ labelFor i (tableOf w .held)
-    held-labelled =
-        labelled
-        ∙ as-read w limits figures from
-        (λ l f p. labelFor i (recordsFrom w p (f .templates)) ≡ labelFor i (tableOf w .held))
-        (ap (labelFor i) (sym (first-records w (recordsAt (limitsOf w)) (heldCount w) (chanceCount w))))
-
-    as-labelled : (T : PendingFlowsConfig → HeaderFigures → ℕ → ℕ → Type 0) →
-        T (limitsOf w) (figuresAt w) (recordsAt (limitsOf w)) (labelFor i (tableOf w .held)) → T l f p a
-    as-labelled T t =
-        as-read w limits figures from (λ l f p. T l f p a)
-        (subst (T (limitsOf w) (figuresAt w) (recordsAt (limitsOf w))) (sym held-labelled) t)
-
     module _ {w₁ : List ℕ} {r : Removed} (out : TakesOut (l .ttl) now a p f w w₁ r) where
       abbrev Ready : ℕ → Type 0
       Ready p =
@@ -65,7 +51,7 @@ module _ (w b : List ℕ) (i now : ℕ) (ok : wellFormed w (length b) ≡ true) 
           (indexRises (recordsFrom w₁ p (r .records)) 0 (indexFrom w₁ p (r .records)) ≡ true)
 
       pub hand-ready : Ready p
-      hand-ready = as-labelled (λ l f p a. TakesOut (l .ttl) now a p f w w₁ r → Ready p) ready out
+      hand-ready = as-labelled w limits figures from i labelled (λ l f p a. TakesOut (l .ttl) now a p f w w₁ r → Ready p) ready out
         where
           legal : LegalWords w (length b)
           legal = words-say w (length b) ok
@@ -82,7 +68,8 @@ module _ (w b : List ℕ) (i now : ℕ) (ok : wellFormed w (length b) ≡ true) 
             out-tied w b i now legal o .index-right,
           )
 
-      module _ (id : i < 65536) {w₂ : List ℕ} {c h : ℕ}
+      module _ {m : LiveFigures} (read : m ≡ liveFigures (l .ttl) now a (entriesFrom w entriesAt (f .entries)))
+          (id : i < 65536) {w₂ : List ℕ} {c h : ℕ}
           (hand : HandsOut p (r .records) (record { key = i; label = a; count = r .apart }) w₁ w₂ c)
           (long : length w₂ ≡ length w) (handed : h ≡ countSum (tableOf w .handed)) where
         -- where what was taken out and handed out says it, with the limits, figures and label read
@@ -90,29 +77,27 @@ module _ (w b : List ℕ) (i now : ℕ) (ok : wellFormed w (length b) ≡ true) 
             (TakesOut (limitsOf w .ttl) now (labelFor i (tableOf w .held)) (recordsAt (limitsOf w)) (figuresAt w) w
             w₁ r → HandsOut (recordsAt (limitsOf w)) (r .records)
             (record { key = i; label = labelFor i (tableOf w .held); count = r .apart }) w₁ w₂ c →
+            m .bytes ≡ liveLens (limitsOf w .ttl) now (labelFor i (tableOf w .held)) (tableOf w .entries) % 2 ^ 64 →
             T (limitsOf w) (figuresAt w) (recordsAt (limitsOf w)) (labelFor i (tableOf w .held))) → T l f p a
         after-hand T t =
-            as-labelled
+            as-labelled w limits figures from i labelled
             (λ l f p a. TakesOut (l .ttl) now a p f w w₁ r → HandsOut p (r .records)
-            (record { key = i; label = a; count = r .apart }) w₁ w₂ c → T l f p a) t out hand
+            (record { key = i; label = a; count = r .apart }) w₁ w₂ c →
+            m .bytes ≡ liveLens (l .ttl) now a (entriesFrom w entriesAt (f .entries)) % 2 ^ 64 → T l f p a) t out hand
+            (ap (λ (x : LiveFigures). x .bytes) read)
 
-        pub settling : Settling (f .entries) h (r .entries) w₂
+        pub settling : Settling (f .entries) h (r .entries) (r .bytes) (m .bytes) w₂
         settling =
-            after-hand (λ l f p a. Settling (f .entries) h (r .entries) w₂)
-            (λ o k. record {
+            after-hand (λ l f p a. Settling (f .entries) h (r .entries) (r .bytes) (m .bytes) w₂)
+            (λ o k u. record {
               less-handed = handed-few w b ok handed;
-              less-left = left-few w b i now ok o id k long handed;
-              entries-fit = omega (
-                arith,
-                out-below w b i now (words-say w (length b) ok) o,
-                records-within w (length b) (words-say w (length b) ok),
-              );
-              bytes-fit = bytes-fit w b i now ok o id k long;
+              less-left = left-few w b i now ok o id k long handed u;
+              less-live = live-fits w b i now ok o id k long handed u;
               header-fits = omega (arith, words-say w (length b) ok .header-long);
             })
 
         pub drain-done : {d t : ℕ} {w₃ : List ℕ} → d ≡ raised (f .dropped) (f .entries - h - r .entries) →
-            t ≡ heldSum a (entriesFrom w₂ entriesAt (r .entries)) →
+            t ≡ r .bytes - m .bytes →
             w₃ ≡ overwritten w₂ (headerOf l (record {
               cached = f .cached;
               dropped = d;
@@ -125,8 +110,7 @@ module _ (w b : List ℕ) (i now : ℕ) (ok : wellFormed w (length b) ≡ true) 
         unfolding overwritten
         drain-done {d} {t} {w₃} dropped total written =
             after-hand
-            (λ l f p a. d ≡ raised (f .dropped) (f .entries - h - r .entries) →
-            t ≡ heldSum a (entriesFrom w₂ entriesAt (r .entries)) →
+            (λ l f p a. d ≡ raised (f .dropped) (f .entries - h - r .entries) → t ≡ r .bytes - m .bytes →
             w₃ ≡ overwritten w₂ (headerOf l (record {
               cached = f .cached;
               dropped = d;
@@ -136,7 +120,7 @@ module _ (w b : List ℕ) (i now : ℕ) (ok : wellFormed w (length b) ≡ true) 
               chance = c;
             })) →
             Does (drained i now) (cacheOf (tableOf w) b) (areasOf w b) (count (r .apart)) (areasOf w₃ b))
-            (λ o k x y z. rw (z, x, y) (drain-does w b i now ok o id k long handed))
+            (λ o k u x y z. rw (z, x, y) (drain-does w b i now ok o id k long handed u))
             dropped total written
 
 -- the call, behind the test of 28

@@ -13,8 +13,8 @@ use Rattle.table_records.specs.Choose.{skipping}
 use Rattle.table_records.proofs.Skips.{length-skipping}
 use Rattle.pending_flows.specs.declared.header.HeaderFigures.{HeaderFigures}
 use Rattle.pending_calls.specs.declared.removal.Removed.{Removed}
-use Rattle.pending_calls.specs.Removal.{Removes}
-use Rattle.pending_drain.specs.Handing.{zeros, unexpired, TakesOut, HandsOut}
+use Rattle.pending_calls.specs.Removal.{unexpired, Removes}
+use Rattle.pending_drain.specs.Handing.{zeros, TakesOut, HandsOut}
 
 pub length-zeros : length zeros ≡ 1024
 length-zeros = length-replicate {A = ℕ} 1024 0

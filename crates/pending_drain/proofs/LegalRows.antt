@@ -13,7 +13,7 @@ use Rattle.table.specs.Table.{tableOf, entriesFrom, records, tally}
 use Rattle.table.proofs.Words.{length-entries, length-records}
 use Rattle.table.proofs.Facts.{Placed, LegalWords}
 use Rattle.table_entries.specs.declared.StayTest.{StayTest}
-use Rattle.table_entries.specs.Sums.{lensSum, heldSum}
+use Rattle.table_entries.specs.Sums.{lensSum}
 use Rattle.table_records.specs.Choose.{skipAll}
 use Rattle.cache_model.proofs.Limits as Limits
 use Rattle.cache_model.proofs.Calls.{limitsAlone, held-within}
@@ -26,7 +26,6 @@ use Rattle.pending_calls.specs.declared.removal.Removed.{Removed}
 use Rattle.pending_calls.specs.Removal.{Removes}
 use Rattle.pending_calls.proofs.Removed.{TiedRowsApart, rows-left, placed-left, apart-left, rows-tied, rows-placed}
 use Rattle.pending_calls.proofs.Removed.{bytes-left, few-templates, few-bodies, total-short, entries-below-records}
-use Rattle.pending_drain.proofs.HeldTotals.{held-fits}
 
 module _ (w b : List ℕ) (legal : LegalWords w (length b)) where
   pub bodies-within : Within (length b) (tableOf w .entries)
@@ -87,15 +86,6 @@ module _ (w b : List ℕ) (legal : LegalWords w (length b)) where
 
       pub removed-below : entriesAt + entryWords * r .entries ≤ recordsAt (limitsOf w)
       removed-below = omega (arith, done .few-entries, entries-below-records w (length b) legal)
-
-      -- the lengths of what is left can be summed, but those of any label
-      pub removed-fits : (out : ℕ) → heldSum out (entriesFrom w′ entriesAt (r .entries)) ≤ 18446744073709551615
-      removed-fits out =
-          omega (
-            arith,
-            held-fits out (limitsOf w .«max_total_bytes») (entriesFrom w′ entriesAt (r .entries)) removed-placed,
-            legal .limits-legal .total-small,
-          )
 
       pub removed-apart : a < 1024 → r .apart ≡ tally a (entriesFrom w′ entriesAt (r .entries))
       removed-apart =

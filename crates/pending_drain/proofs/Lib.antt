@@ -5,8 +5,8 @@ pub mod Written
 pub mod LegalRows
 pub mod TakenOut
 pub mod HandedRows
-pub mod HeldTotals
 pub mod Drained
 pub mod AsRead
 pub mod NoneTaken
+pub mod SomeTaken
 pub mod Drains

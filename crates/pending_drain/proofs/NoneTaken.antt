@@ -7,8 +7,6 @@ use native.Mathlib.Omega.{arith}
 use lib.Dec.{eqb}
 use lib.ListN.{length}
 use borrow.Author.Tests.{eqb-true}
-use Rattle.config.specs.declared.Ttl.{Ttl}
-use Rattle.config.specs.declared.Ttl.the-variants.{None}
 use Rattle.config.specs.declared.PendingFlowsConfig.{PendingFlowsConfig}
 use Rattle.config.specs.Limits.{recordWords}
 use Rattle.config.proofs.Lists.{All, all-front}
@@ -28,27 +26,22 @@ use Rattle.pending_flows.specs.declared.header.HeaderFigures.{HeaderFigures}
 use Rattle.pending_flows.specs.Header.{figuresAt}
 use Rattle.pending_flows.proofs.Questions.{first-records}
 use Rattle.table_view.proofs.Tied.{words-tied, entries-small, none-above}
-use Rattle.table_view.proofs.AllStay.{all-live, none-expired, all-stay, none-skipped}
+use Rattle.table_view.proofs.AllStay.{none-expired, all-stay, none-skipped}
 use Rattle.pending_calls.specs.declared.removal.Removed.{Removed}
-use Rattle.pending_calls.specs.Removal.{everything, Removes}
+use Rattle.pending_calls.specs.Removal.{everything, unexpired, Removes}
 use Rattle.pending_calls.proofs.NoneRemoved.{removes-alike, entries-short, all-swept-stay}
-use Rattle.pending_drain.specs.Handing.{zeros, unexpired, NothingGoes, TakesOut}
+use Rattle.pending_drain.specs.Handing.{zeros, NothingGoes, TakesOut}
 use Rattle.pending_drain.proofs.AsRead.{as-read}
 use Rattle.pending_drain.proofs.Handing.{taken-out}
 
 -- ---- whether nothing goes
 
-module _ (ttl : Ttl) (clock label chance : ℕ) (es : List Entry) where
-  pub not-certain : (false ≡ true → NothingGoes ttl clock label chance es)
+module _ (chance count live : ℕ) where
+  pub not-certain : (false ≡ true → NothingGoes chance count live)
   not-certain e = absurd (false≢true e)
 
-  pub without-ttl : {v : Bool} → chance ≤ 0 → ttl ≡ None → (v ≡ true → NothingGoes ttl clock label chance es)
-  without-ttl c e _ = record { hands-none = omega arith; all-live = rw e (all-live clock label es) }
-
-  pub as-counted : (n bodies live : ℕ) → chance ≤ 0 → n ≡ tally label es → bodies ≡ n →
-      live ≡ liveCount ttl clock label es → (eqb bodies live ≡ true → NothingGoes ttl clock label chance es)
-  as-counted n bodies live c right counted read e =
-      record { hands-none = omega arith; all-live = sym read ∙ sym (eqb-true bodies live e) ∙ counted ∙ right }
+  pub as-counted : (n : ℕ) → chance ≤ 0 → n ≡ count → (eqb n live ≡ true → NothingGoes chance count live)
+  as-counted n c counted e = record { hands-none = omega arith; all-live = sym counted ∙ eqb-true n live e }
 
 -- an id's record counts the entries with its label
 counts-label : (i : ℕ) (es : List Entry) (rs : List TemplateRecord) → All (λ r. r .count ≡ tally (r .label) es) rs →
@@ -79,7 +72,7 @@ module _ (w b : List ℕ) (i : ℕ) (ok : wellFormed w (length b) ≡ true) {l :
       let tied = words-tied w (length b) legal in
       entries-small (held ++ tableOf w .handed) es (tied .labels-small) (tied .labels-known)
 
-  pub id-counted : countOf i (recordsFrom w p (f .templates)) ≡ tally a (entriesFrom w entriesAt (f .entries))
+  id-counted : countOf i (recordsFrom w p (f .templates)) ≡ tally a (entriesFrom w entriesAt (f .entries))
   id-counted =
       rw labelled
       (as-read w limits figures from
@@ -90,11 +83,15 @@ module _ (w b : List ℕ) (i : ℕ) (ok : wellFormed w (length b) ≡ true) {l :
       (all-front _ held (tableOf w .handed) (words-tied w (length b) legal .counts-right))
       (none-above es labels-small))))
 
-  module _ (clock : ℕ) {v : Bool}
-      (certain : v ≡ true → NothingGoes (l .ttl) clock a (f .chance) (entriesFrom w entriesAt (f .entries)))
+  module _ (clock : ℕ) {live : ℕ} (read : live ≡ liveCount (l .ttl) clock a (entriesFrom w entriesAt (f .entries)))
+      {v : Bool} (certain : v ≡ true → NothingGoes (f .chance) (countOf i (recordsFrom w p (f .templates))) live)
       (said : v ≡ true) where
-    none : NothingGoes (l .ttl) clock a (f .chance) (entriesFrom w entriesAt (f .entries))
+    none : NothingGoes (f .chance) (countOf i (recordsFrom w p (f .templates))) live
     none = certain said
+
+    all-live : liveCount (l .ttl) clock a (entriesFrom w entriesAt (f .entries))
+        ≡ tally a (entriesFrom w entriesAt (f .entries))
+    all-live = sym read ∙ sym (none .all-live) ∙ id-counted
 
     kept-whole : swept (unexpired (l .ttl) clock a) zeros (entriesFrom w entriesAt (f .entries))
         ≡ entriesFrom w entriesAt (f .entries)
@@ -103,7 +100,7 @@ module _ (w b : List ℕ) (i : ℕ) (ok : wellFormed w (length b) ≡ true) {l :
         let rows : entriesFrom w entriesAt (f .entries) ≡ es = rw figures in
         rw rows
         (none-skipped q es labels-small (all-stay q es refl
-        (none-expired (l .ttl) clock a es (rw rows at (none .all-live))) (entries-short w (length b) ok)))
+        (none-expired (l .ttl) clock a es (rw rows at all-live)) (entries-short w (length b) ok)))
 
     nothing-skipped : zeros ≡ skipping zeros (recordsFrom w (p + recordWords * f .templates) (f .chance))
     unfolding setEach recordsFrom

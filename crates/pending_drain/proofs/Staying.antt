@@ -1,12 +1,11 @@
--- Which bodies of a label stay, where the expired bodies of one label go: of another label all, of that one those that
--- are not expired. Assumes nothing.
-use mathlib.Core.Path.{_≡_, refl, _∙_}
-use mathlib.Core.Bool.{Bool, true, not, and-true}
+-- Which bodies of a label stay, where its expired bodies go: those that are not expired. Assumes nothing.
+use mathlib.Core.Path.{_≡_, refl}
+use mathlib.Core.Bool.{Bool, not, and-true}
 use mathlib.Core.List.{List}
 use Prim.Native.Nat.{ℕ, _≤_}
 use native.Mathlib.Omega.{arith}
 use lib.ListN.{length}
-use borrow.Author.Tests.{eq-eqb, ne-eqb, le-leb}
+use borrow.Author.Tests.{eq-eqb, le-leb}
 use Rattle.config.specs.declared.Ttl.{Ttl}
 use Rattle.config.proofs.Lists.{All, all-both}
 use Rattle.table.specs.declared.Entry.{Entry}
@@ -14,23 +13,14 @@ use Rattle.table.proofs.Labels.{tally-most}
 use Rattle.cache_model.specs.Bodies.{Body, expired, keep}
 use Rattle.cache_model.proofs.Lists.{length-part}
 use Rattle.cache_model.proofs.Parts.{sub-keep}
-use Rattle.cache_model.proofs.Weights.{keep-true}
 use Rattle.pending_flows.specs.View.{bodyAt, bodiesAt}
 use Rattle.pending_flows.proofs.Templates.{length-bodies}
 use Rattle.table_view.proofs.Swept.{bodyStays, Within, body-size, keep-alike}
 use Rattle.table_view.proofs.Summed.{lenMost}
-use Rattle.pending_drain.specs.Handing.{unexpired}
+use Rattle.pending_calls.specs.Removal.{unexpired}
 
 module _ (b : List ℕ) (ttl : Ttl) (now a : ℕ) (es : List Entry) (within : Within (length b) es)
     (short : All (λ e. e .len ≤ lenMost) es) where
-  pub others-stay : (k : ℕ) → (a ≡ k → ⊥) → keep (bodyStays (unexpired ttl now a) k) (bodiesAt b k es) ≡ bodiesAt b k es
-  unfolding bodyStays
-  others-stay k d =
-      keep-alike b (bodyStays (unexpired ttl now a) k) (λ x. true) k es
-      (all-both _ _ (λ e. bodyStays (unexpired ttl now a) k (bodyAt b e) ≡ true)
-      (λ e x y. rw (ne-eqb a k d, body-size b e x) (le-leb (e .len) lenMost y)) es within short)
-      ∙ keep-true (bodiesAt b k es)
-
   pub live-stay : keep (bodyStays (unexpired ttl now a) a) (bodiesAt b a es)
       ≡ keep (λ x. not (expired ttl now x)) (bodiesAt b a es)
   unfolding bodyStays

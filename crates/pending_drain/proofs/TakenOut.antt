@@ -4,7 +4,8 @@ use mathlib.Core.Path.{_≡_, sym, ap, _∙_}
 use mathlib.Core.Logic.{_≢_}
 use mathlib.Core.Bool.{false}
 use mathlib.Core.List.{List, _++_}
-use Prim.Native.Nat.{ℕ, _+_, _*_, _≤_, _<_}
+use Prim.Native.Nat.{ℕ, _+_, _*_, _%_, _^_, _≤_, _<_}
+use native.Mathlib.Nat.{mod-eq-of-lt}
 use native.Mathlib.Omega.{arith}
 use native.Mathlib.Decide.{ℕ-discrete}
 use lib.ListN.{length, getD, take-append-drop, List·getD-eq-default}
@@ -14,29 +15,32 @@ use Rattle.config.proofs.Lists.{All}
 use Rattle.table.specs.declared.Entry.{Entry}
 use Rattle.table.specs.declared.TemplateRecord.{TemplateRecord}
 use Rattle.table.specs.Layout.{limitsOf, heldCount, entryCount, chanceCount, entriesAt, recordsAt}
-use Rattle.table.specs.Table.{tableOf, entriesFrom, recordsFrom, records, index, tally}
+use Rattle.table.specs.Table.{tableOf, entriesFrom, recordsFrom, records, index, sumLens, tally}
+use Rattle.table.specs.Reads.{liveLens}
 use Rattle.table.proofs.Words.{length-records, records-behind}
 use Rattle.table.proofs.Facts.{Placed, LegalWords}
 use Rattle.table.proofs.FoundLabels.{labelFor}
 use Rattle.table_entries.specs.declared.StayTest.{StayTest}
-use Rattle.table_entries.specs.Sums.{heldSum}
 use Rattle.table_entries.proofs.LabelSums.{length-summed}
+use Rattle.table_entries.proofs.Lengths.{lens-within}
+use Rattle.table_entries.proofs.Swept.{all-swept}
 use Rattle.table_records.specs.Close.{closed}
 use Rattle.table_records.specs.Choose.{skipAll, skipping}
-use Rattle.cache_model.specs.Bodies.{Body, without}
+use Rattle.cache_model.specs.Bodies.{Body, size, sumBodies, without}
 use Rattle.cache_model.specs.Cache.{Cache}
 use Rattle.pending_flows.specs.Header.{figuresAt}
 use Rattle.pending_flows.specs.View.{bodiesAt, templatesAt, cacheOf}
 use Rattle.table_view.proofs.Tied.{Tied, words-tied, none-above}
 use Rattle.table_view.proofs.Swept.{Within}
+use Rattle.table_view.proofs.Totals.{lens-apart}
 use Rattle.table_view.proofs.Summed.{everything, lenMost}
 use Rattle.pending_calls.specs.declared.removal.Removed.{Removed}
-use Rattle.pending_calls.specs.Removal.{counted, Removes}
+use Rattle.pending_calls.specs.Removal.{unexpired, counted, Removes}
 use Rattle.pending_calls.proofs.Removed.{TiedRowsApart}
-use Rattle.pending_drain.specs.Handing.{zeros, unexpired, TakesOut}
+use Rattle.pending_drain.specs.Handing.{zeros, TakesOut}
 use Rattle.pending_drain.proofs.Handing.{length-zeros}
 use Rattle.pending_drain.proofs.LegalRows.{bodies-within, bodies-short, entries-few, handed-single, held-long}
-use Rattle.pending_drain.proofs.LegalRows.{held-limited, removed-tied, removed-below, removed-fits}
+use Rattle.pending_drain.proofs.LegalRows.{held-limited, removed-tied, removed-below, removed-bytes}
 use Rattle.pending_drain.proofs.LegalRows.{removed-placed, removed-apart}
 use Rattle.pending_drain.proofs.DrainedRows as Rows
 
@@ -117,9 +121,6 @@ module _ (w b : List ℕ) (i now : ℕ) where
       pub out-below : entriesAt + entryWords * r .entries ≤ p
       out-below = removed-below w b legal out
 
-      pub out-fits : (skipped : ℕ) → heldSum skipped es′ ≤ 18446744073709551615
-      out-fits = removed-fits w b legal out
-
       pub out-placed : Placed 0 (l .«max_total_bytes») es′
       out-placed = removed-placed w b legal out
 
@@ -157,6 +158,29 @@ module _ (w b : List ℕ) (i now : ℕ) where
           by-label (no d) =
               removed-apart w b legal out
               (omega (arith, Rows.drained-most b (l .ttl) i now held handed es tied within short few single))
+
+      -- the lengths of what is held, and then of the live bodies
+      out-lens : r .bytes ≡ sumLens rs′ es′ + liveLens (l .ttl) now label es
+      out-lens =
+          let within′ : Within (length b) es′ =
+          rw entries-are (all-swept (λ e. e .place + e .len ≤ length b) test (skipping zeros handed) es within) in
+          let live-long : sumBodies size (bodiesAt b label es′) ≡ liveLens (l .ttl) now label es =
+          rw entries-are (Rows.drained-lens b (l .ttl) i now held handed es tied within short few single) in
+          removed-bytes w b legal out ∙ lens-apart b out-tied within′
+          ∙ ap (λ (m : ℕ). sumLens rs′ es′ + m) live-long
+
+      -- which are too short to wrap
+      pub out-total : {m : ℕ} → m ≡ liveLens (l .ttl) now label es % 2 ^ 64 → r .bytes ≡ sumLens rs′ es′ + m
+      out-total read =
+          let most = l .«max_total_bytes» in
+          let fits : liveLens (l .ttl) now label es < 2 ^ 64 = omega (
+            arith,
+            out-lens,
+            removed-bytes w b legal out,
+            lens-within 0 most es′ (omega arith) out-placed,
+            legal .limits-legal .total-small,
+          ) in
+          out-lens ∙ ap (λ (m : ℕ). sumLens rs′ es′ + m) (sym (read ∙ mod-eq-of-lt fits))
 
       -- where there are such, a record less is held
       pub out-fewer : 0 < r .apart → r .records < n

@@ -3,10 +3,10 @@ ghost use mathlib.Core.Path.{_≡_};
 ghost use mathlib.Core.Bool.{true};
 ghost use Prim.Native.Nat.{_+_, _*_, _-_, _≤_, _<_};
 ghost use lib.ListN.{length};
-ghost use Rattle.config.specs.Limits.{recordWords, entryWords};
+ghost use Rattle.config.specs.Limits.{recordWords};
 ghost use Rattle.table.specs.Layout.{limitsOf, entriesAt, recordsAt};
-ghost use Rattle.table.specs.Table.{tableOf, entriesFrom, recordsFrom, indexFrom, tally};
-ghost use Rattle.table.specs.Reads.{labelOf, labelOrNone, countOf};
+ghost use Rattle.table.specs.Table.{tableOf, entriesFrom, recordsFrom, indexFrom};
+ghost use Rattle.table.specs.Reads.{labelOf, labelOrNone, countOf, liveCount};
 ghost use Rattle.table.specs.WellFormed.{indexRises, wellFormed};
 ghost use Rattle.cache_model.specs.Cache.{count, raised};
 ghost use Rattle.cache_model.specs.Calls.{drained};
@@ -17,10 +17,9 @@ ghost use Rattle.pending_drain.specs.Handing.{NothingGoes, TakesOut, Han
 ghost use Rattle.pending_drain.specs.Promises.{Drains};
 use config::PendingFlowsConfig;
 use config::RECORD_WORDS;
-use config::Ttl;
 use pending_calls::Removed;
 use pending_calls::raised;
-use pending_calls::remove;
+use pending_calls::remove_expired;
 use pending_calls::remove_none;
 use pending_flows::HeaderFigures;
 use pending_flows::figures_at;
@@ -31,10 +30,8 @@ use table::TemplateRecord;
 use table::count_of;
 use table::label_for;
 use table::limits_at;
-use table::live_count;
+use table::live_figures;
 use table::records_at;
-use table_entries::StayTest;
-use table_entries::held_bytes;
 use table_promotion::add_record;
 use table_records::skip_records;
 
@@ -54,74 +51,31 @@ fn dropped_after(figures: HeaderFigures, handed: u64, left: u64) -> u64
     raised(figures.dropped, figures.entries - handed - left)
 }
 
-// Removes what is handed out already, the expired bodies of a label and the label's record; its other bodies stay.
-fn take_out(
-    words: &mut [u64],
-    from: usize,
-    figures: HeaderFigures,
-    ttl: Ttl,
-    clock: u64,
-    label: u64,
-) -> Removed
-    requires { ⌜ (entriesAt + entryWords * figures .entries ≤ from) × (from + recordWords * (figures .templates +
-        figures .chance) ≤ length (now words)) ⌝ }
-    requires { ⌜ figures .templates + figures .chance ≤ 1024 ⌝ }
-    ensures { λ r. ⌜ TakesOut ttl clock label from figures (now (words .entry)) (now (words .exit)) r ⌝ }
+// The total after a drain: the bytes of the bodies that are left, but of those that are handed out.
+fn total_after(left: u64, handed: u64) -> u64
+    requires { ⌜ handed ≤ left ⌝ }
+    ensures { λ r. ⌜ r ≡ left - handed ⌝ }
 {
-    let held = figures.templates as usize;
-    let chance = figures.chance as usize;
-    let test = StayTest {
-        ttl,
-        clock,
-        all: false,
-        label,
-        max_size: 18446744073709551615,
-    };
-    let mut skip = [0; LABELS];
-    skip_records(words, from + RECORD_WORDS * held, chance, &mut skip);
-    remove(
-        words,
-        from,
-        held + chance,
-        figures.entries as usize,
-        test,
-        &mut skip,
-        label,
-    )
+    left - handed
 }
 
-// Whether it is certain that no body goes: nothing is handed out, and no body of the label is expired. With no time to
-// live none is.
-fn nothing_goes(
-    words: &[u64],
-    from: usize,
-    figures: HeaderFigures,
-    ttl: Ttl,
-    clock: u64,
-    label: u64,
-    id: u64,
-) -> bool
-    requires { ⌜ (entriesAt + entryWords * figures .entries ≤ length (now words)) × (from + recordWords * figures
-        .templates ≤ length (now words)) ⌝ }
-    requires { ⌜ countOf id (recordsFrom (now words) from (figures .templates)) ≡ tally label (entriesFrom (now words)
-        entriesAt (figures .entries)) ⌝ }
+// Whether it is certain that no body goes: nothing is handed out, and as many bodies of the id are live as its record
+// counts.
+fn nothing_goes(words: &[u64], from: usize, figures: HeaderFigures, id: u64, live: usize) -> bool
+    requires { ⌜ from + recordWords * figures .templates ≤ length (now words) ⌝ }
     ensures { λ r.
-        ⌜ (r ≡ true → NothingGoes ttl clock label (figures .chance) (entriesFrom (now (words .entry)) entriesAt
-        (figures .entries))) ⌝ }
+        ⌜ (r ≡ true → NothingGoes (figures .chance) (countOf id (recordsFrom (now (words .entry)) from
+        (figures .templates))) live) ⌝ }
 {
     if 0 < figures.chance {
         return false;
     }
-    let Ttl::After(_) = ttl else {
-        return true;
-    };
-    let held = figures.templates as usize;
-    let bodies = count_of(words, from, held, id);
-    let live = live_count(words, figures.entries as usize, label, ttl, clock);
+    let bodies = count_of(words, from, figures.templates as usize, id);
     bodies == (live as u64)
 }
 
-// The same as `take_out`, but no entry is moved or summed where nothing goes.
+// Removes what is handed out already, the expired bodies of a label and the label's record; its other bodies, so many
+// as are live, stay. No entry is moved where nothing goes.
 fn take_label(
     words: &mut [u64],
     bytes: &[u8],
@@ -131,17 +85,21 @@ fn take_label(
     id: u64,
     clock: u64,
     label: u64,
+    live: usize,
 ) -> Removed
     requires { ⌜ (wellFormed (now words) (length (now bytes)) ≡ true) × (limits ≡ limitsOf (now words)) ⌝ }
     requires { ⌜ (figures ≡ figuresAt (now words)) × (from ≡ recordsAt limits) ⌝ }
     requires { ⌜ label ≡ labelOrNone (labelOf id (recordsFrom (now words) from (figures .templates))) ⌝ }
+    requires { ⌜ live ≡ liveCount (limits .ttl) clock label (entriesFrom (now words) entriesAt (figures .entries)) ⌝ }
     ensures { λ r. ⌜ TakesOut (limits .ttl) clock label from figures (now (words .entry)) (now (words .exit)) r ⌝ }
 {
-    let ttl = limits.ttl;
-    if nothing_goes(words, from, figures, ttl, clock, label, id) {
+    if nothing_goes(words, from, figures, id, live) {
         return remove_none(words, bytes, limits, figures, label);
     }
-    take_out(words, from, figures, ttl, clock, label)
+    let handed = from + RECORD_WORDS * (figures.templates as usize);
+    let mut skip = [0u32; LABELS];
+    skip_records(words, handed, figures.chance as usize, &mut skip);
+    remove_expired(words, bytes, limits, figures, clock, &mut skip, label, live)
 }
 
 // Adds the record of what is handed out behind the held ones, if there is a body; whether there is, as the header
@@ -171,7 +129,19 @@ fn drain_cache(words: &mut [u64], bytes: &[u8], id: u64, clock: u64) -> usize
     let handed = handed_count(words, bytes, limits);
     let from = records_at(limits);
     let label = label_for(words, from, figures.templates as usize, id);
-    let removed = take_label(words, bytes, limits, figures, from, id, clock, label);
+    let ttl = limits.ttl;
+    let live = live_figures(words, figures.entries as usize, label, ttl, clock);
+    let removed = take_label(
+        words,
+        bytes,
+        limits,
+        figures,
+        from,
+        id,
+        clock,
+        label,
+        live.bodies,
+    );
     let template = TemplateRecord {
         key: id,
         label,
@@ -182,7 +152,7 @@ fn drain_cache(words: &mut [u64], bytes: &[u8], id: u64, clock: u64) -> usize
     let after = HeaderFigures {
         cached: figures.cached,
         dropped: dropped_after(figures, handed, entries),
-        total: held_bytes(words, removed.entries, label),
+        total: total_after(removed.bytes, live.bytes),
         templates: removed.records as u64,
         entries,
         chance,

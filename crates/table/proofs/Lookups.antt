@@ -2,7 +2,8 @@
 use mathlib.Core.Path.{_≡_, refl, ap, sym, _∙_}
 use mathlib.Core.Bool.{Bool, true, false, not, cond}
 use mathlib.Core.List.{List, [], _∷_}
-use Prim.Native.Nat.{ℕ, _+_, _*_, _-_, _≤_, _<_}
+use Prim.Native.Nat.{ℕ, _+_, _*_, _-_, _%_, _^_, _≤_, _<_}
+use native.Mathlib.Nat.{mod-add-mod}
 use native.Mathlib.Omega.{arith}
 use lib.Dec.{eqb}
 use lib.ListN.{length}
@@ -15,9 +16,11 @@ use Rattle.table.specs.declared.TemplateRecord.{TemplateRecord}
 use Rattle.table.specs.declared.RecordFound.{RecordFound}
 use Rattle.table.specs.declared.RecordFound.the-variants as Record
 use Rattle.table.specs.declared.LabelFound.the-variants as Label
+use Rattle.table.specs.declared.LiveFigures.{LiveFigures}
 use Rattle.table.specs.Layout.{entriesAt}
 use Rattle.table.specs.Table.{entryAt, recordAt, entriesFrom, recordsFrom}
-use Rattle.table.specs.Reads.{recordOf, labelIn, countIn, labelOf, countOf, isLive, liveCount}
+use Rattle.table.specs.Reads.{recordOf, labelIn, countIn, labelOf, countOf, isLive, liveCount, liveLens}
+use Rattle.table.specs.Reads.{liveFigures}
 use Rattle.table.proofs.Words.{records-none, records-first, entries-none, entries-first}
 
 -- Looking for a key: the record that is found is among the `left` ones from word p on.
@@ -94,28 +97,49 @@ module _ (ttl : Ttl) (clock label : ℕ) (e : Entry) where
       not v ≡ isLive ttl clock label e
   live-by-age h f = rw (eq-eqb label (e .label) h, f)
 
--- Counting live entries: those counted, and then those among the `left` ones from word p on.
-pub record LiveCounted (w : List ℕ) (ttl : Ttl) (clock label entries live p left : ℕ) : Type 0 where
+-- Summing live entries: those passed, and then those among the `left` ones from word p on.
+pub record LiveSummed (w : List ℕ) (ttl : Ttl) (clock label entries bodies bytes left p : ℕ) : Type 0 where
   -- they lie within the words
   pub within : p + entryWords * left ≤ length w
   -- no more are counted than passed
-  pub few : live + left ≤ entries
+  pub few : bodies + left ≤ entries
   -- the whole count is what was counted, and then what is left
   pub rest : liveCount ttl clock label (entriesFrom w entriesAt entries) ≡
-      live + liveCount ttl clock label (entriesFrom w p left)
+      bodies + liveCount ttl clock label (entriesFrom w p left)
+  -- the lengths of those passed, without wrapping
+  pub passed : ℕ
+  pub wrapped : bytes ≡ passed % 2 ^ 64
+  pub lens-rest : liveLens ttl clock label (entriesFrom w entriesAt entries) ≡
+      passed + liveLens ttl clock label (entriesFrom w p left)
 
-pub none-counted : (w : List ℕ) (ttl : Ttl) (clock label entries : ℕ) →
+pub none-summed : (w : List ℕ) (ttl : Ttl) (clock label entries : ℕ) →
     headerWords + entryWords * entries ≤ length w →
-    LiveCounted w ttl clock label entries 0 headerWords entries
-none-counted w ttl clock label entries h = record { within = h; few = omega arith; rest = omega arith }
+    LiveSummed w ttl clock label entries 0 0 entries headerWords
+none-summed w ttl clock label entries h = record {
+  within = h;
+  few = omega arith;
+  rest = omega arith;
+  passed = 0;
+  wrapped = refl;
+  lens-rest = omega arith;
+}
 
-module _ {w : List ℕ} {ttl : Ttl} {clock label entries live p left : ℕ}
-    (inv : LiveCounted w ttl clock label entries live p left) where
-  pub all-counted : left ≤ 0 → live ≡ liveCount ttl clock label (entriesFrom w entriesAt entries)
-  unfolding liveCount
-  all-counted h =
-      let z : liveCount ttl clock label (entriesFrom w p left) ≡ 0 = rw (entries-none w p left h) in
-      omega (arith, inv .rest)
+module _ {w : List ℕ} {ttl : Ttl} {clock label entries bodies bytes left p : ℕ}
+    (inv : LiveSummed w ttl clock label entries bodies bytes left p) where
+  pub all-summed : left ≤ 0 →
+      _≡_ {A = LiveFigures} (record { bodies = bodies; bytes = bytes })
+      (liveFigures ttl clock label (entriesFrom w entriesAt entries))
+  unfolding liveCount liveLens
+  all-summed h =
+      let count : liveCount ttl clock label (entriesFrom w p left) ≡ 0 = rw (entries-none w p left h) in
+      let lens : liveLens ttl clock label (entriesFrom w p left) ≡ 0 = rw (entries-none w p left h) in
+      let bodies-are : bodies ≡ liveCount ttl clock label (entriesFrom w entriesAt entries) =
+      omega (arith, inv .rest) in
+      let passed-are : inv .passed ≡ liveLens ttl clock label (entriesFrom w entriesAt entries) =
+      omega (arith, inv .lens-rest) in
+      let bytes-are : bytes ≡ liveLens ttl clock label (entriesFrom w entriesAt entries) % 2 ^ 64 =
+      inv .wrapped ∙ ap (λ (n : ℕ). n % 2 ^ 64) passed-are in
+      λ j. record { bodies = bodies-are j; bytes = bytes-are j }
 
   module _ (e : Entry) (v : Bool) (some : 0 < left) (is : e ≡ entryAt w p) (test : v ≡ isLive ttl clock label e) where
     next : liveCount ttl clock label (entriesFrom w p left) ≡
@@ -123,12 +147,38 @@ module _ {w : List ℕ} {ttl : Ttl} {clock label entries live p left : ℕ}
     unfolding liveCount
     next = rw (entries-first w p left some e is, test)
 
-    pub live-counted : v ≡ true → LiveCounted w ttl clock label entries (live + 1) (p + entryWords) (left - 1)
-    live-counted h =
-        let n = rw h at next in
-        record { within = omega (arith, inv .within); few = omega (arith, inv .few); rest = omega (arith, inv .rest) }
+    next-lens : liveLens ttl clock label (entriesFrom w p left) ≡
+        cond v (e .len) 0 + liveLens ttl clock label (entriesFrom w (p + entryWords) (left - 1))
+    unfolding liveLens
+    next-lens = rw (entries-first w p left some e is, test)
 
-    pub not-counted : v ≡ false → LiveCounted w ttl clock label entries live (p + entryWords) (left - 1)
-    not-counted h =
+    pub live-summed : v ≡ true → {bytes′ : ℕ} → bytes′ ≡ (bytes + e .len) % 2 ^ 64 →
+        LiveSummed w ttl clock label entries (bodies + 1) bytes′ (left - 1) (p + entryWords)
+    live-summed h adds =
         let n = rw h at next in
-        record { within = omega (arith, inv .within); few = omega (arith, inv .few); rest = omega (arith, inv .rest) }
+        let l = rw h at next-lens in
+        record {
+          within = omega (arith, inv .within);
+          few = omega (arith, inv .few);
+          rest = omega (arith, inv .rest);
+          passed = inv .passed + e .len;
+          wrapped = adds ∙ rw (inv .wrapped) (mod-add-mod (inv .passed) (2 ^ 64) (e .len));
+          lens-rest = omega (arith, inv .lens-rest);
+        }
+
+    pub not-summed : v ≡ false → LiveSummed w ttl clock label entries bodies bytes (left - 1) (p + entryWords)
+    not-summed h =
+        let n = rw h at next in
+        let l = rw h at next-lens in
+        record {
+          within = omega (arith, inv .within);
+          few = omega (arith, inv .few);
+          rest = omega (arith, inv .rest);
+          passed = inv .passed;
+          wrapped = inv .wrapped;
+          lens-rest = omega (arith, inv .lens-rest);
+        }
+
+pub bodies-told : {f : LiveFigures} (ttl : Ttl) (clock label : ℕ) (es : List Entry) →
+    f ≡ liveFigures ttl clock label es → f .bodies ≡ liveCount ttl clock label es
+bodies-told ttl clock label es e = ap (λ (f : LiveFigures). f .bodies) e

@@ -1,7 +1,7 @@
 -- What is read off the records and entries of a table.
 use mathlib.Core.List.{List, [], _∷_}
 use mathlib.Core.Bool.{Bool, not, _&&_, cond}
-use Prim.Native.Nat.{ℕ, _+_}
+use Prim.Native.Nat.{ℕ, _+_, _%_, _^_}
 use lib.Dec.{eqb}
 use Rattle.config.specs.declared.Ttl.{Ttl}
 use Rattle.config.specs.Age.{expiredAt}
@@ -9,6 +9,7 @@ use Rattle.table.specs.declared.Entry.{Entry}
 use Rattle.table.specs.declared.TemplateRecord.{TemplateRecord}
 use Rattle.table.specs.declared.RecordFound.{RecordFound}
 use Rattle.table.specs.declared.RecordFound.the-variants as Record
+use Rattle.table.specs.declared.LiveFigures.{LiveFigures}
 use Rattle.table.specs.declared.LabelFound.{LabelFound}
 use Rattle.table.specs.declared.LabelFound.the-variants as Label
 
@@ -45,10 +46,20 @@ countOf key (r ∷ rs) = cond (eqb key (r .key)) (r .count) (countOf key rs)
 abbrev pub isLive : Ttl → ℕ → ℕ → Entry → Bool
 isLive ttl now label e = eqb label (e .label) && not (expiredAt ttl now (e .clock))
 
--- how many there are
+-- how many there are, and their lengths together; both, the lengths in a word, which wraps
 unfoldable pub liveCount : Ttl → ℕ → ℕ → List Entry → ℕ
 liveCount ttl now label [] = 0
 liveCount ttl now label (e ∷ es) = cond (isLive ttl now label e) 1 0 + liveCount ttl now label es
+
+unfoldable pub liveLens : Ttl → ℕ → ℕ → List Entry → ℕ
+liveLens ttl now label [] = 0
+liveLens ttl now label (e ∷ es) = cond (isLive ttl now label e) (e .len) 0 + liveLens ttl now label es
+
+abbrev pub liveFigures : Ttl → ℕ → ℕ → List Entry → LiveFigures
+liveFigures ttl now label es = record {
+  bodies = liveCount ttl now label es;
+  bytes = liveLens ttl now label es % 2 ^ 64;
+}
 
 -- the bodies of these records, by their counts
 unfoldable pub countSum : List TemplateRecord → ℕ

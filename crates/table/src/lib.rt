@@ -19,6 +19,7 @@ pub use reads::count_of;
 pub use reads::first_label;
 pub use reads::label_for;
 pub use reads::live_count;
+pub use reads::live_figures;
 pub use reads::record_of;
 
 // A body: its template's label, its place and length in the byte area, and the clock reading of its offer.
@@ -46,6 +47,12 @@ pub enum RecordFound {
 pub enum LabelFound {
     At(u64),
     Nothing,
+}
+
+// The bodies of a label that are not expired: how many, and their lengths together, which wrap.
+pub struct LiveFigures {
+    pub bodies: usize,
+    pub bytes: u64,
 }
 
 // Every label is below this.

@@ -7,9 +7,11 @@ ghost use Rattle.table.specs.Layout.{entriesAt};
 ghost use Rattle.table.specs.Table.{entriesFrom, recordsFrom};
 ghost use Rattle.table.specs.Passes.{firstLabel};
 ghost use Rattle.table.specs.Reads.{recordOf, countIn, labelOf, labelOrNone, countOf, isLive, liveCount};
+ghost use Rattle.table.specs.Reads.{liveFigures};
 use super::Entry;
 use super::LABELS;
 use super::LabelFound;
+use super::LiveFigures;
 use super::RecordFound;
 use super::layout::entry_at;
 use super::layout::record_at;
@@ -18,6 +20,7 @@ use config::HEADER_WORDS;
 use config::RECORD_WORDS;
 use config::Ttl;
 use config::is_expired;
+use std::num::wrapping_add_u64;
 
 // The record with this key.
 pub fn record_of(words: &[u64], from: usize, records: usize, key: u64) -> RecordFound
@@ -99,20 +102,31 @@ fn is_live(entry: Entry, label: u64, ttl: Ttl, clock: u64) -> bool
     !is_expired(ttl, clock, entry.clock)
 }
 
+// How many of the entries have this label and are not expired, and their lengths together.
+pub fn live_figures(words: &[u64], entries: usize, label: u64, ttl: Ttl, clock: u64) -> LiveFigures
+    requires { ⌜ headerWords + entryWords * entries ≤ length (now words) ⌝ }
+    ensures { λ r. ⌜ r ≡ liveFigures ttl clock label (entriesFrom (now (words .entry)) entriesAt entries) ⌝ }
+{
+    let mut bodies: usize = 0;
+    let mut bytes: u64 = 0;
+    let mut left = entries;
+    let mut p = HEADER_WORDS;
+    while left > 0 {
+        let entry = entry_at(words, p);
+        if is_live(entry, label, ttl, clock) {
+            bodies += 1;
+            bytes = wrapping_add_u64(bytes, entry.len);
+        }
+        left -= 1;
+        p += ENTRY_WORDS;
+    }
+    LiveFigures { bodies, bytes }
+}
+
 // How many of the entries have this label and are not expired.
 pub fn live_count(words: &[u64], entries: usize, label: u64, ttl: Ttl, clock: u64) -> usize
     requires { ⌜ headerWords + entryWords * entries ≤ length (now words) ⌝ }
     ensures { λ r. ⌜ r ≡ liveCount ttl clock label (entriesFrom (now (words .entry)) entriesAt entries) ⌝ }
 {
-    let mut live: usize = 0;
-    let mut left = entries;
-    let mut p = HEADER_WORDS;
-    while left > 0 {
-        if is_live(entry_at(words, p), label, ttl, clock) {
-            live += 1;
-        }
-        left -= 1;
-        p += ENTRY_WORDS;
-    }
-    live
+    live_figures(words, entries, label, ttl, clock).bodies
 }

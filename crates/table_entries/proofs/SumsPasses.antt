@@ -2,20 +2,18 @@
 use mathlib.Core.Path.{_≡_, refl, sym, ap, _∙_}
 use mathlib.Core.Bool.{Bool, true, false, cond}
 use mathlib.Core.List.{List}
-use Prim.Native.Nat.{ℕ, _+_, _*_, _-_, _≤_, _<_, _^_, min}
+use Prim.Native.Nat.{ℕ, _+_, _*_, _-_, _≤_, _<_, min}
 use native.Mathlib.Omega.{arith}
 use lib.ListN.{length, getD, set, length-set}
 use lib.Seq.{set-out}
-use borrow.Author.Tests.{eq-eqb, ne-eqb}
 use Rattle.config.specs.Limits.{entryWords}
 use Rattle.table.specs.declared.Entry.{Entry}
 use Rattle.table.specs.Layout.{entriesAt}
 use Rattle.table.specs.Table.{entryAt, entriesFrom}
-use Rattle.table.specs.Passes.{heldLen}
 use Rattle.table.proofs.Words.{entries-first, entries-none}
 use Rattle.table_entries.specs.declared.StayTest.{StayTest}
 use Rattle.table_entries.specs.Stays.{stays}
-use Rattle.table_entries.specs.Sums.{sumMost, moreAt, share, summed, heldSum}
+use Rattle.table_entries.specs.Sums.{sumMost, moreAt, share, summed}
 
 -- a label that is none has no sum
 pub none-added : (sums : List ℕ) (label n : ℕ) → length sums ≡ 1024 → 1024 ≤ label → sums ≡ moreAt sums label n
@@ -61,42 +59,3 @@ module _ (w : List ℕ) (entries : ℕ) (q : StayTest) (bytes : Bool) where
 
       pub entry-passed : v ≡ false → SumsPassed w entries q bytes sums₀ sums (left - 1) (p + entryWords)
       entry-passed h = record { reached = omega (arith, inv .reached); long = inv .long; rest = rw (← test, h) at next }
-
--- those passed hold `held` bytes, and with what is left it is all
-pub record HeldPassed (w : List ℕ) (entries out held left p : ℕ) : Type 0 where
-  -- they lie within the words
-  pub reached : p + entryWords * left ≡ entriesAt + entryWords * entries
-  pub rest : held + heldSum out (entriesFrom w p left) ≡ heldSum out (entriesFrom w entriesAt entries)
-
-module _ (w : List ℕ) (entries out : ℕ) where
-  pub none-held : HeldPassed w entries out 0 entries entriesAt
-  none-held = record { reached = refl; rest = omega arith }
-
-  module _ {held left p : ℕ} (inv : HeldPassed w entries out held left p) where
-    pub all-held : left ≤ 0 → held ≡ heldSum out (entriesFrom w entriesAt entries)
-    unfolding heldSum
-    all-held h =
-        let z : heldSum out (entriesFrom w p left) ≡ 0 = rw (entries-none w p left h) in
-        omega (arith, inv .rest)
-
-    module _ (e : Entry) (more : 0 < left) (is : e ≡ entryAt w p) where
-      next-held : heldSum out (entriesFrom w p left)
-          ≡ heldLen out e + heldSum out (entriesFrom w (p + entryWords) (left - 1))
-      unfolding heldSum
-      next-held = rw (entries-first w p left more e is)
-
-      pub entry-held : (e .label ≡ out → ⊥) → HeldPassed w entries out (held + e .len) (left - 1) (p + entryWords)
-      unfolding heldLen
-      entry-held d =
-          let n = rw (ne-eqb (e .label) out d) at next-held in
-          record { reached = omega (arith, inv .reached); rest = omega (arith, inv .rest) }
-
-      pub held-fits : (e .label ≡ out → ⊥) → heldSum out (entriesFrom w entriesAt entries) ≤ 18446744073709551615 →
-          held + e .len < 2 ^ 64
-      held-fits d few = omega (arith, entry-held d .rest)
-
-      pub entry-handed : e .label ≡ out → HeldPassed w entries out held (left - 1) (p + entryWords)
-      unfolding heldLen
-      entry-handed d =
-          let n = rw (eq-eqb (e .label) out d) at next-held in
-          record { reached = omega (arith, inv .reached); rest = omega (arith, inv .rest) }

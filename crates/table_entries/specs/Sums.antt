@@ -5,7 +5,6 @@ use Prim.Native.Nat.{ℕ, _+_, _%_, _^_, min}
 use lib.Dec.{eqb}
 use lib.ListN.{getD, set}
 use Rattle.table.specs.declared.Entry.{Entry}
-use Rattle.table.specs.Passes.{heldLen}
 use Rattle.table_entries.specs.declared.StayTest.{StayTest}
 use Rattle.table_entries.specs.Stays.{stays}
 
@@ -39,8 +38,3 @@ lensSum (e ∷ es) = e .len + lensSum es
 
 abbrev pub lensWord : List Entry → ℕ
 lensWord es = lensSum es % 2 ^ 64
-
--- the lengths of all entries but those of a label
-unfoldable pub heldSum : ℕ → List Entry → ℕ
-heldSum out [] = 0
-heldSum out (e ∷ es) = heldLen out e + heldSum out es

@@ -7,7 +7,6 @@ mod sweeps;
 use config::Ttl;
 pub use pack::last_end;
 pub use pack::pack_bodies;
-pub use sums::held_bytes;
 pub use sums::sums_by_label;
 pub use sweeps::Kept;
 pub use sweeps::put_entry;

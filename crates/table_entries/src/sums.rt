@@ -5,7 +5,7 @@ ghost use lib.ListN.{length};
 ghost use Rattle.config.specs.Limits.{entryWords};
 ghost use Rattle.table.specs.Layout.{entriesAt};
 ghost use Rattle.table.specs.Table.{entriesFrom};
-ghost use Rattle.table_entries.specs.Sums.{sumMost, moreAt, share, summed, heldSum};
+ghost use Rattle.table_entries.specs.Sums.{sumMost, moreAt, share, summed};
 use super::StayTest;
 use super::stay::stays;
 use config::ENTRY_WORDS;
@@ -68,24 +68,4 @@ pub fn sums_by_label(
         left -= 1;
         p += ENTRY_WORDS;
     }
-}
-
-// The lengths of all entries but those of one label.
-pub fn held_bytes(words: &[u64], entries: usize, out: u64) -> u64
-    requires { ⌜ (entriesAt + entryWords * entries ≤ length (now words)) × (heldSum out (entriesFrom (now words)
-        entriesAt entries) ≤ 18446744073709551615) ⌝ }
-    ensures { λ r. ⌜ r ≡ heldSum out (entriesFrom (now (words .entry)) entriesAt entries) ⌝ }
-{
-    let mut held: u64 = 0;
-    let mut left = entries;
-    let mut p = HEADER_WORDS;
-    while left > 0 {
-        let entry = entry_at(words, p);
-        if entry.label != out {
-            held += entry.len;
-        }
-        left -= 1;
-        p += ENTRY_WORDS;
-    }
-    held
 }

@@ -1,24 +1,26 @@
 -- The sum of held lengths, entry by entry, is the byte total of the held templates. Assumes nothing.
 use mathlib.Core.Path.{_≡_, refl, ap, sym, _∙_}
-use mathlib.Core.Logic.{_≢_}
-use mathlib.Core.Bool.{Bool, true, false, cond}
+use mathlib.Core.Bool.{Bool, true, false, not, _&&_, _||_, cond, false≢true}
 use mathlib.Core.List.{List, [], _∷_}
-use Prim.Native.Nat.{ℕ, _+_}
+use Prim.Native.Nat.{ℕ, _+_, _≤_}
 use native.Mathlib.Omega.{arith}
 use lib.Dec.{eqb}
 use lib.ListN.{length}
-use borrow.Author.Tests.{eqb-true, eqb-false, eq-eqb, ne-eqb}
+use borrow.Author.Tests.{eqb-true}
+use Rattle.config.specs.declared.Ttl.{Ttl}
+use Rattle.config.specs.Age.{expiredAt}
 use Rattle.config.proofs.Lists.{All}
+use Rattle.config.proofs.Tests.{or-other}
 use Rattle.table.specs.declared.Entry.{Entry}
 use Rattle.table.specs.declared.TemplateRecord.{TemplateRecord}
 use Rattle.table.specs.Table.{hasLabel, sumLens}
-use Rattle.table.specs.Passes.{heldLen}
+use Rattle.table.specs.Reads.{liveLens}
 use Rattle.table.proofs.Facts.{Differ}
-use Rattle.table.proofs.Labels.{absent-holds}
-use Rattle.table_entries.specs.Sums.{lensSum, heldSum}
-use Rattle.cache_model.specs.Bodies.{Body, size, sumBodies, sumTemplates}
+use Rattle.table_entries.specs.Sums.{lensSum}
+use Rattle.cache_model.specs.Bodies.{Body, size, expired, keep, sumBodies, sumTemplates}
 use Rattle.pending_flows.specs.View.{bodyAt, bodiesAt, templatesAt}
 use Rattle.pending_flows.proofs.Weights.{weigh, weighAll, weighOwned, weights-agree}
+use Rattle.table_view.proofs.Tied.{TiedApart}
 use Rattle.table_view.proofs.Swept.{Within, body-size}
 
 -- whatever a body weighs: the bodies of templates, template by template, and entry by entry
@@ -64,32 +66,48 @@ unfolding lensSum
 lens-owned rs [] known = refl
 lens-owned rs (e ∷ es) known = rw (known .0) (omega (arith, lens-owned rs es (known .1)))
 
--- an entry of the label out adds nothing, another its length
-pub out-adds : (out : ℕ) (e : Entry) → e .label ≡ out → heldLen out e ≡ 0
-unfolding heldLen
-out-adds out e l = rw (eq-eqb (e .label) out l)
+-- where every entry belongs to one or has the label a, which none has, they are the lengths of all but of that label
+pub lens-apart : (b : List ℕ) {a : ℕ} {rs : List TemplateRecord} {es : List Entry} {is : List ℕ} →
+    TiedApart a rs es is → Within (length b) es → lensSum es ≡ sumLens rs es + sumBodies size (bodiesAt b a es)
+unfolding lensSum
+lens-apart b {a} {rs} {es} tied = by-entries es (tied .labels-known)
+  where
+    known : Entry → Type 0
+    known e = hasLabel (e .label) rs || eqb a (e .label) ≡ true
 
-pub other-adds : (out : ℕ) (e : Entry) → e .label ≢ out → heldLen out e ≡ e .len
-unfolding heldLen
-other-adds out e l = rw (ne-eqb (e .label) out l)
+    by-label : (e : Entry) → known e → (x : Bool) → eqb a (e .label) ≡ x → e .place + e .len ≤ length b →
+        (n k : ℕ) (bs : List Body) → n ≡ k + sumBodies size bs →
+        e .len + n ≡ cond (hasLabel (e .label) rs) (e .len) 0 + k + sumBodies size (cond x (bodyAt b e ∷ bs) bs)
+    by-label e h true t fits n k bs ih =
+        let none : hasLabel (e .label) rs ≡ false = rw (← eqb-true a (e .label) t) (tied .label-apart) in
+        rw none (omega (arith, body-size b e fits))
+    by-label e h false t fits n k bs ih =
+        let some : hasLabel (e .label) rs ≡ true = or-other (hasLabel (e .label) rs) (eqb a (e .label)) h
+        (λ u. false≢true (sym t ∙ u)) in
+        rw some (omega arith)
 
--- where the entries that are not of the label out belong to these records, and no other does
-module _ (out : ℕ) (rs : List TemplateRecord) (other : All (λ r. out ≢ r .label) rs) where
-  held-len : (e : Entry) → (e .label ≢ out → hasLabel (e .label) rs ≡ true) →
-      heldLen out e ≡ cond (hasLabel (e .label) rs) (e .len) 0
-  held-len e known = by-label (eqb (e .label) out) refl
-    where
-      by-label : (x : Bool) → eqb (e .label) out ≡ x → heldLen out e ≡ cond (hasLabel (e .label) rs) (e .len) 0
-      by-label true t =
-          let l : e .label ≡ out = eqb-true (e .label) out t in
-          let none : hasLabel (e .label) rs ≡ false = rw l (absent-holds out rs other) in
-          rw none (out-adds out e l)
-      by-label false t =
-          let l : e .label ≢ out = eqb-false (e .label) out t in
-          rw (known l) (other-adds out e l)
+    by-entries : (es : List Entry) → All known es → Within (length b) es →
+        lensSum es ≡ sumLens rs es + sumBodies size (bodiesAt b a es)
+    by-entries [] h within = refl
+    by-entries (e ∷ es) h within =
+        by-label e (h .0) (eqb a (e .label)) refl (within .0) (lensSum es) (sumLens rs es) (bodiesAt b a es)
+        (by-entries es (h .1) (within .1))
 
-  pub held-sum-lens : (es : List Entry) → All (λ e. e .label ≢ out → hasLabel (e .label) rs ≡ true) es →
-      heldSum out es ≡ sumLens rs es
-  unfolding heldSum
-  held-sum-lens [] h = refl
-  held-sum-lens (e ∷ es) h = omega (arith, held-len e (h .0), held-sum-lens es (h .1))
+-- the lengths of a label's live entries are those of its unexpired bodies
+pub live-lens : (b : List ℕ) (ttl : Ttl) (now k : ℕ) (es : List Entry) → Within (length b) es →
+    liveLens ttl now k es ≡ sumBodies size (keep (λ x. not (expired ttl now x)) (bodiesAt b k es))
+unfolding liveLens
+live-lens b ttl now k [] within = refl
+live-lens b ttl now k (e ∷ es) within =
+    by-tests (eqb k (e .label)) (expiredAt ttl now (e .clock)) refl (live-lens b ttl now k es (within .1))
+  where
+    live : Body → Bool
+    live x = not (expired ttl now x)
+
+    by-tests : (s x : Bool) → expiredAt ttl now (e .clock) ≡ x →
+        liveLens ttl now k es ≡ sumBodies size (keep live (bodiesAt b k es)) →
+        cond (s && not x) (e .len) 0 + liveLens ttl now k es
+        ≡ sumBodies size (keep live (cond s (bodyAt b e ∷ bodiesAt b k es) (bodiesAt b k es)))
+    by-tests true true h ih = rw h (omega arith)
+    by-tests true false h ih = rw h (omega (arith, body-size b e (within .0)))
+    by-tests false x h ih = omega arith

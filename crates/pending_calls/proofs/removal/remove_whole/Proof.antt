@@ -1,4 +1,4 @@
-use mathlib.Core.Path.{_∙_}
+use mathlib.Core.Path.{refl, _∙_}
 use native.Mathlib.Omega.{arith}
 use borrow.Author.Needs.{needs}
 use Rattle.pending_flows.proofs.Questions.{bodies-few}
@@ -58,7 +58,7 @@ returns c =
     let read = read-of counted in
     let start = start-of read in
     whole-removed _ (start .args .bytes .now) (start .pre .0 .0) (start .pre .1 .1) _ (start .pre .1 .0)
-    (start .pre .0 .1) (read .records-at .ensures) (counted .count-whole .ensures) (all .stay-all .ensures)
+    (start .pre .0 .1) (read .records-at .ensures) (counted .count-whole .ensures) (all .stay-all .ensures) refl
     (swept .sweep .ensures) (closed .close-apart .ensures) (closed .close-apart .kept .0 ∙ swept .sweep .kept .0)
 
 pub remove-whole-spec : {M : Type 1} → statement M
