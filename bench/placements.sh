@@ -1,6 +1,6 @@
 #!/bin/sh
 # Measures the preflight with the functions at other places of the program, and takes the least of
-# all: where a loop stands among the processor's lines moves its time by up to a third.
+# all: where a loop stands among the processor's lines moves its time by a third and more.
 # Usage: ./placements.sh [quick]
 set -eu
 cd "$(dirname "$0")"
