@@ -1,5 +1,5 @@
-//! The least that an offer which evicts or packs must do in this layout, written by hand, with no
-//! test and no proof: read every live word once, as the test of 28 must, and bring the entries and
+//! What an offer which evicts or packs must do in this layout, written by hand, with no test and no
+//! proof: read every live word once, as the test of 28 must, and bring the entries and
 //! the bodies to where the library leaves them. Bodies that lie side by side and move as far are
 //! moved at once. The labels are the templates' numbers, and template 0 is the one that goes.
 
@@ -22,7 +22,9 @@ pub fn offer(shape: &Shape, words: &mut [u64], records_at: usize, bytes: &mut [u
     let bodies = shape.bodies();
     let front = &words[..HEADER + 4 * bodies];
     let records = &words[records_at..records_at + 8 * shape.templates];
-    black_box(sums::scalar(black_box(front)).wrapping_add(sums::scalar(black_box(records))));
+    black_box(
+        sums::vectorised(black_box(front)).wrapping_add(sums::vectorised(black_box(records))),
+    );
     let (entries, _) = words[HEADER..].as_chunks_mut::<4>();
     let entries = &mut entries[..bodies];
     match shape.call {
