@@ -64,7 +64,7 @@ unfolding moved
 moved-pastes from to n xs = rw append-assoc
 
 -- nothing is moved yet
-moved-none : (from to : ℕ) (xs : List ℕ) → xs ≡ moved from to 0 xs
+pub moved-none : (from to : ℕ) (xs : List ℕ) → xs ≡ moved from to 0 xs
 moved-none from to xs = paste-zero xs to (drop from xs) ∙ sym (moved-pastes from to 0 xs)
 
 -- one more at the back of what is moved

@@ -8,14 +8,15 @@ use lib.ListN.{length, set, take, drop, length-set}
 use lib.Seq.{take-set-le, drop-set-lt, getD-set-same, getD-set-other}
 use Rattle.config.specs.Limits.{entryWords}
 use Rattle.areas.specs.Overwrite.{moved}
-use Rattle.areas.proofs.Moves.{length-moved}
+use Rattle.areas.proofs.Moves.{length-moved, moved-none, moved-on}
 use Rattle.table.specs.declared.Entry.{Entry}
 use Rattle.table.specs.Layout.{entriesAt}
 use Rattle.table.specs.Table.{entryAt, entriesFrom}
 use Rattle.table.specs.WellFormed.{placesLegal}
 use Rattle.table.proofs.Words.{entries-first, entries-none}
 use Rattle.table.proofs.Facts.{Placed, places-say}
-use Rattle.table_entries.specs.Pack.{packedEntries, packedEnd, packedBytes, Packs}
+use Rattle.table_entries.specs.declared.pack.Run.{Run}
+use Rattle.table_entries.specs.Pack.{packedEntries, packedEnd, packedBytes, ReachesTo, Packs}
 use Rattle.table_entries.proofs.Frames.{entries-below, entries-above, entries-more}
 use Rattle.table_entries.proofs.Packed.{placedAt}
 use Rattle.table_entries.proofs.Lengths.{placed-lower}
@@ -31,27 +32,49 @@ place-stored w p at room =
       getD-set-other w (p + 1) (p + 3) at 0 (λ d. omega arith),
     )
 
--- `left` entries are left, from word p on; those passed are packed, up to `at`
-pub record EntriesPacked (entries : ℕ) (w₀ b₀ w b : List ℕ) (at left p : ℕ) : Type 0 where
+-- a run that goes on
+pub run-goes-on : (place : ℕ) (run : Run) (b : List ℕ) → run .to ≤ run .from → run .from + run .len ≡ place →
+    ReachesTo place run b b run
+run-goes-on place run b down here =
+    record { reaches = here; behind = refl; down = down; bytes = refl; length-same = refl }
+
+-- a run that is moved, and the next one
+pub run-moved : (place : ℕ) (run : Run) (b b′ : List ℕ) → run .to ≤ run .from → run .from + run .len ≤ place →
+    place ≤ length b → b′ ≡ moved (run .from) (run .to) (run .len) b →
+    ReachesTo place run b b′ (record { from = place; to = run .to + run .len; len = 0 })
+run-moved place run b b′ down before within moves = record {
+  reaches = omega arith;
+  behind = omega arith;
+  down = omega arith;
+  bytes = sym (moved-none place (run .to + run .len) b′) ∙ moves;
+  length-same = ap length moves ∙ length-moved (run .from) (run .to) (run .len) b (omega arith) (omega arith);
+}
+
+-- `left` entries are left, from word p on; those passed are packed, but that the run is still to be moved
+pub record EntriesPacked (entries : ℕ) (w₀ b₀ w b : List ℕ) (run : Run) (left p : ℕ) : Type 0 where
   pub reached : p + entryWords * left ≡ entriesAt + entryWords * entries
   pub within : entriesAt + entryWords * entries ≤ length w₀
   pub few : left ≤ entries
   pub same-words : length w ≡ length w₀
   pub same-bytes : length b ≡ length b₀
-  -- the bodies that are left begin at `at` or above
-  pub placed : Placed at (length b) (entriesFrom w p left)
+  pub down : run .to ≤ run .from
+  pub source : run .from + run .len ≤ length b
+  -- the bodies that are left begin at the run's end or above
+  pub placed : Placed (run .from + run .len) (length b) (entriesFrom w p left)
   -- what is left packs behind what is packed
-  pub rest : entriesFrom w entriesAt (entries - left) ++ packedEntries at (entriesFrom w p left)
+  pub rest : entriesFrom w entriesAt (entries - left) ++ packedEntries (run .to + run .len) (entriesFrom w p left)
       ≡ packedEntries 0 (entriesFrom w₀ entriesAt entries)
-  pub rest-bytes : packedBytes at (entriesFrom w p left) b ≡ packedBytes 0 (entriesFrom w₀ entriesAt entries) b₀
-  pub rest-end : packedEnd at (entriesFrom w p left) ≡ packedEnd 0 (entriesFrom w₀ entriesAt entries)
+  pub rest-bytes : packedBytes (run .to + run .len) (entriesFrom w p left)
+      (moved (run .from) (run .to) (run .len) b) ≡ packedBytes 0 (entriesFrom w₀ entriesAt entries) b₀
+  pub rest-end : packedEnd (run .to + run .len) (entriesFrom w p left)
+      ≡ packedEnd 0 (entriesFrom w₀ entriesAt entries)
   pub head : take entriesAt w ≡ take entriesAt w₀
   pub tail : drop (entriesAt + entryWords * entries) w ≡ drop (entriesAt + entryWords * entries) w₀
 
 module _ (entries : ℕ) where
   pub none-packed : (w b : List ℕ) → entriesAt + entryWords * entries ≤ length w →
       placesLegal 0 (length b) (entriesFrom w entriesAt entries) ≡ true →
-      EntriesPacked entries w b w b 0 entries entriesAt
+      EntriesPacked entries w b w b (record { from = 0; to = 0; len = 0 }) entries entriesAt
   unfolding entriesFrom
   none-packed w b room legal =
       let z : entries - entries ≡ 0 = omega arith in
@@ -61,23 +84,29 @@ module _ (entries : ℕ) where
         few = omega arith;
         same-words = refl;
         same-bytes = refl;
+        down = omega arith;
+        source = omega arith;
         placed = places-say 0 (length b) (entriesFrom w entriesAt entries) legal;
         rest = rw z;
-        rest-bytes = refl;
+        rest-bytes = ap (packedBytes 0 (entriesFrom w entriesAt entries)) (sym (moved-none 0 0 b));
         rest-end = refl;
         head = refl;
         tail = refl;
       }
 
-  module _ {w₀ b₀ w b : List ℕ} {at left p : ℕ} (inv : EntriesPacked entries w₀ b₀ w b at left p) where
-    pub all-packed-up : left ≤ 0 → Packs entries w₀ b₀ w b at
+  module _ {w₀ b₀ w b : List ℕ} {run : Run} {left p : ℕ} (inv : EntriesPacked entries w₀ b₀ w b run left p) where
+    pub target-within : run .to + run .len ≤ length b
+    target-within = omega (arith, inv .down, inv .source)
+
+    pub all-packed-up : left ≤ 0 → (b′ : List ℕ) → b′ ≡ moved (run .from) (run .to) (run .len) b →
+        Packs entries w₀ b₀ w b′ (run .to + run .len)
     unfolding packedEntries packedBytes packedEnd
-    all-packed-up h =
+    all-packed-up h b′ moves =
         let none = entries-none w p left h in
         let z : entries - left ≡ entries = omega arith in
         record {
           entries = sym (append-nil (entriesFrom w entriesAt entries)) ∙ (rw (none, z) at (inv .rest));
-          bytes = rw none at (inv .rest-bytes);
+          bytes = moves ∙ (rw none at (inv .rest-bytes));
           end = rw none at (inv .rest-end);
           head = inv .head;
           tail = inv .tail;
@@ -90,65 +119,77 @@ module _ (entries : ℕ) where
       first : entriesFrom w p left ≡ e ∷ later
       first = entries-first w p left more e is
 
-      first-placed : Placed at (length b) (e ∷ later)
+      first-placed : Placed (run .from + run .len) (length b) (e ∷ later)
       first-placed = rw first at (inv .placed)
 
-      pub source-within : e .place + e .len ≤ length b
-      source-within = first-placed .1
+      pub run-before : run .from + run .len ≤ e .place
+      run-before = first-placed .0
 
-      pub target-within : at + e .len ≤ length b
-      target-within = let f = first-placed in omega (arith, f .0, f .1)
+      body-within : e .place + e .len ≤ length b
+      body-within = first-placed .1
 
-      abbrev w′ : List ℕ
-      w′ = set w (p + 1) at
+      pub place-within : e .place ≤ length b
+      place-within = omega (arith, body-within)
 
-      abbrev b′ : List ℕ
-      b′ = moved (e .place) at (e .len) b
+      module _ (b′ : List ℕ) (r : Run) (up : ReachesTo (e .place) run b b′ r) where
+        abbrev at : ℕ
+        at = r .to + r .len
 
-      same-later : entriesFrom w′ (p + entryWords) (left - 1) ≡ later
-      same-later =
-          entries-above w′ w (p + entryWords) (left - 1) (p + entryWords) (omega arith)
-          (drop-set-lt (p + entryWords) w (p + 1) at (omega arith))
+        abbrev w′ : List ℕ
+        w′ = set w (p + 1) at
 
-      long : length b′ ≡ length b
-      long = length-moved (e .place) at (e .len) b source-within target-within
+        pub new-place-fits : length b₀ < 2 ^ 64 → r .to + r .len < 2 ^ 64
+        new-place-fits h = omega (arith, up .behind, target-within, inv .same-bytes)
 
-      later-placed : Placed (at + e .len) (length b′) (entriesFrom w′ (p + entryWords) (left - 1))
-      later-placed =
-          let f = first-placed in
-          rw (long, same-later)
-          (placed-lower (at + e .len) (e .place + e .len) (length b) later (omega (arith, f .0)) (f .2))
+        pub new-length-fits : length b₀ < 2 ^ 64 → r .len + e .len < 2 ^ 64
+        new-length-fits h = omega (arith, up .reaches, body-within, inv .same-bytes)
 
-      packed-rest : entriesFrom w′ entriesAt (entries - (left - 1)) ++ packedEntries (at + e .len)
-          (entriesFrom w′ (p + entryWords) (left - 1)) ≡ packedEntries 0 (entriesFrom w₀ entriesAt entries)
-      unfolding packedEntries
-      packed-rest =
-          let done = entries - left in
-          let z : entries - (left - 1) ≡ done + 1 = omega (arith, inv .few) in
-          let here : entriesAt + entryWords * done ≡ p = omega (arith, inv .reached, inv .few) in
-          let before : entriesFrom w′ entriesAt done ≡ entriesFrom w entriesAt done =
-          entries-below w′ w entriesAt done p (omega arith) (take-set-le p w (p + 1) at (omega arith)) in
-          let stored : entryAt w′ (entriesAt + entryWords * done) ≡ placedAt at e =
-          ap (entryAt w′) here ∙ place-stored w p at (omega (arith, inv)) ∙ ap (placedAt at) (sym is) in
-          rw (z, entries-more w′ entriesAt done, before, stored, same-later, append-assoc)
-          (rw first at (inv .rest))
+        same-later : entriesFrom w′ (p + entryWords) (left - 1) ≡ later
+        same-later =
+            entries-above w′ w (p + entryWords) (left - 1) (p + entryWords) (omega arith)
+            (drop-set-lt (p + entryWords) w (p + 1) at (omega arith))
 
-      pub end-fits : length b₀ < 2 ^ 64 → at + e .len < 2 ^ 64
-      end-fits h = omega (arith, target-within, inv .same-bytes)
+        packed-rest : entriesFrom w′ entriesAt (entries - (left - 1)) ++ packedEntries (at + e .len)
+            (entriesFrom w′ (p + entryWords) (left - 1)) ≡ packedEntries 0 (entriesFrom w₀ entriesAt entries)
+        unfolding packedEntries
+        packed-rest =
+            let done = entries - left in
+            let z : entries - (left - 1) ≡ done + 1 = omega (arith, inv .few) in
+            let here : entriesAt + entryWords * done ≡ p = omega (arith, inv .reached, inv .few) in
+            let before : entriesFrom w′ entriesAt done ≡ entriesFrom w entriesAt done =
+            entries-below w′ w entriesAt done p (omega arith) (take-set-le p w (p + 1) at (omega arith)) in
+            let stored : entryAt w′ (entriesAt + entryWords * done) ≡ placedAt at e =
+            ap (entryAt w′) here ∙ place-stored w p at (omega (arith, inv)) ∙ ap (placedAt at) (sym is) in
+            rw (z, entries-more w′ entriesAt done, before, stored, same-later, append-assoc)
+            (rw (first, sym (up .behind)) at (inv .rest))
 
-      pub entry-packed : (after : List ℕ) → after ≡ moved (e .place) at (e .len) b →
-          EntriesPacked entries w₀ b₀ (set w (p + 1) at) after (at + e .len) (left - 1) (p + entryWords)
-      unfolding packedBytes packedEnd
-      entry-packed after moves = rw moves record {
-        reached = omega (arith, inv .reached);
-        within = inv .within;
-        few = omega (arith, inv .few);
-        same-words = length-set w (p + 1) at ∙ inv .same-words;
-        same-bytes = long ∙ inv .same-bytes;
-        placed = later-placed;
-        rest = packed-rest;
-        rest-bytes = rw same-later (rw first at (inv .rest-bytes));
-        rest-end = rw same-later (rw first at (inv .rest-end));
-        head = take-set-le entriesAt w (p + 1) at (omega (arith, inv)) ∙ inv .head;
-        tail = drop-set-lt (entriesAt + entryWords * entries) w (p + 1) at (omega (arith, inv)) ∙ inv .tail;
-      }
+        -- the body is moved with the run
+        moved-with : packedBytes (at + e .len) later (moved (r .from) (r .to) (r .len + e .len) b′)
+            ≡ packedBytes 0 (entriesFrom w₀ entriesAt entries) b₀
+        unfolding packedBytes
+        moved-with =
+            let s : r .from + (r .len + e .len) ≤ length b′ = omega (arith, up .reaches, up .length-same, body-within) in
+            rw (sym (moved-on (r .from) (r .to) (r .len) (e .len) b′ (up .down) s), up .reaches, up .bytes, up .behind)
+            (rw first at (inv .rest-bytes))
+
+        pub entry-packed : EntriesPacked entries w₀ b₀ (set w (p + 1) (r .to + r .len)) b′
+            (record { from = r .from; to = r .to; len = r .len + e .len }) (left - 1) (p + entryWords)
+        unfolding packedEnd
+        entry-packed =
+            let to-end : r .to + (r .len + e .len) ≡ at + e .len = omega arith in
+            let from-end : r .from + (r .len + e .len) ≡ e .place + e .len = omega (arith, up .reaches) in
+            record {
+              reached = omega (arith, inv .reached);
+              within = inv .within;
+              few = omega (arith, inv .few);
+              same-words = length-set w (p + 1) at ∙ inv .same-words;
+              same-bytes = up .length-same ∙ inv .same-bytes;
+              down = up .down;
+              source = omega (arith, from-end, up .length-same, body-within);
+              placed = rw (from-end, up .length-same, same-later) (first-placed .2);
+              rest = rw to-end packed-rest;
+              rest-bytes = rw (to-end, same-later) moved-with;
+              rest-end = rw (to-end, same-later) (rw (first, sym (up .behind)) at (inv .rest-end));
+              head = take-set-le entriesAt w (p + 1) at (omega (arith, inv)) ∙ inv .head;
+              tail = drop-set-lt (entriesAt + entryWords * entries) w (p + 1) at (omega (arith, inv)) ∙ inv .tail;
+            }

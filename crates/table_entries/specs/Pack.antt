@@ -1,13 +1,14 @@
 -- Bodies moved together towards the front of the byte area, in table order.
 use mathlib.Core.Path.{_≡_}
 use mathlib.Core.List.{List, [], _∷_}
-use Prim.Native.Nat.{ℕ, _+_, _*_}
-use lib.ListN.{take, drop}
+use Prim.Native.Nat.{ℕ, _+_, _*_, _≤_}
+use lib.ListN.{length, take, drop}
 use Rattle.areas.specs.Overwrite.{moved}
 use Rattle.config.specs.Limits.{entryWords}
 use Rattle.table.specs.declared.Entry.{Entry}
 use Rattle.table.specs.Layout.{entriesAt}
 use Rattle.table.specs.Table.{entriesFrom}
+use Rattle.table_entries.specs.declared.pack.Run.{Run}
 
 -- the end of the last entry's body; 0 where there is none
 unfoldable pub lastEnd : List Entry → ℕ
@@ -30,6 +31,14 @@ packedEnd at (e ∷ es) = packedEnd (at + e .len) es
 unfoldable pub packedBytes : ℕ → List Entry → List ℕ → List ℕ
 packedBytes at [] bs = bs
 packedBytes at (e ∷ es) bs = packedBytes (at + e .len) es (moved (e .place) at (e .len) bs)
+
+-- a run that reaches `place`: what is still to be moved by it gives the bytes that the run before was to give
+pub record ReachesTo (place : ℕ) (run : Run) (b b′ : List ℕ) (r : Run) : Type 0 where
+  pub reaches : r .from + r .len ≡ place
+  pub behind : r .to + r .len ≡ run .to + run .len
+  pub down : r .to ≤ r .from
+  pub bytes : moved (r .from) (r .to) (r .len) b′ ≡ moved (run .from) (run .to) (run .len) b
+  pub length-same : length b′ ≡ length b
 
 -- the first m entries and their bodies are packed, up to r; no other word changes
 pub record Packs (m : ℕ) (w b w′ b′ : List ℕ) (r : ℕ) : Type 0 where

@@ -7,7 +7,7 @@ ghost use Rattle.config.specs.Limits.{entryWords};
 ghost use Rattle.table.specs.Layout.{entriesAt};
 ghost use Rattle.table.specs.Table.{entriesFrom};
 ghost use Rattle.table.specs.WellFormed.{placesLegal};
-ghost use Rattle.table_entries.specs.Pack.{lastEnd, Packs};
+ghost use Rattle.table_entries.specs.Pack.{lastEnd, ReachesTo, Packs};
 use areas::move_bytes;
 use config::ENTRY_WORDS;
 use config::HEADER_WORDS;
@@ -29,6 +29,30 @@ pub fn last_end(words: &[u64], entries: usize) -> u64
     last.place + last.len
 }
 
+// Bodies that lie side by side and move together: where they begin, where they go, and their length.
+struct Run {
+    from: usize,
+    to: usize,
+    len: usize,
+}
+
+// The run that a body at this place goes on with. Where it lies apart, the run is moved and the next one begins.
+fn run_up_to(bytes: &mut [u8], run: Run, place: usize) -> Run
+    requires { ⌜ (run .to ≤ run .from) × (run .from + run .len ≤ place) ⌝ }
+    requires { ⌜ place ≤ length (now bytes) ⌝ }
+    ensures { λ r. ⌜ ReachesTo place run (now (bytes .entry)) (now (bytes .exit)) r ⌝ }
+{
+    if run.from + run.len == place {
+        return run;
+    }
+    move_bytes(bytes, run.from, run.to, run.len);
+    Run {
+        from: place,
+        to: run.to + run.len,
+        len: 0,
+    }
+}
+
 // Moves the bodies together towards the front, in table order; answers where the last one ends.
 pub fn pack_bodies(words: &mut [u64], bytes: &mut [u8], entries: usize) -> usize
     requires { ⌜ (entriesAt + entryWords * entries ≤ length (now words)) × (placesLegal 0 (length (now bytes))
@@ -36,17 +60,21 @@ pub fn pack_bodies(words: &mut [u64], bytes: &mut [u8], entries: usize) -> usize
     ensures { λ r.
         ⌜ Packs entries (now (words .entry)) (now (bytes .entry)) (now (words .exit)) (now (bytes .exit)) r ⌝ }
 {
-    let mut at: usize = 0;
+    let mut run = Run {
+        from: 0,
+        to: 0,
+        len: 0,
+    };
     let mut left = entries;
     let mut p = HEADER_WORDS;
     while left > 0 {
         let entry = entry_at(words, p);
-        let len = entry.len as usize;
-        move_bytes(bytes, entry.place as usize, at, len);
-        words[p + PLACE] = at as u64;
-        at += len;
+        run = run_up_to(bytes, run, entry.place as usize);
+        words[p + PLACE] = (run.to + run.len) as u64;
+        run.len += entry.len as usize;
         left -= 1;
         p += ENTRY_WORDS;
     }
-    at
+    move_bytes(bytes, run.from, run.to, run.len);
+    run.to + run.len
 }

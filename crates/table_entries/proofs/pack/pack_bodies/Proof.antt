@@ -1,15 +1,16 @@
 use borrow.Author.Needs.{needs}
 use Rattle.table_entries.proofs.PackPass.{EntriesPacked, none-packed, all-packed-up, entry-packed}
-use Rattle.table_entries.proofs.PackPass.{source-within, target-within, end-fits}
+use Rattle.table_entries.proofs.PackPass.{run-before, place-within, target-within, new-place-fits}
+use Rattle.table_entries.proofs.PackPass.{new-length-fits}
 use Rattle.table_entries.proofs.pack.pack_bodies.Statement.{statement}
 use Rattle.table_entries.proofs.pack.pack_bodies.Tie as tie
 
 abbrev Inv-loop : tie.InvT-loop
-Inv-loop words₀ bytes₀ entries at₀ left₀ p₀ words bytes at left p =
-    EntriesPacked entries words₀ bytes₀ words bytes at left p
+Inv-loop words₀ bytes₀ entries run₀ left₀ p₀ words bytes run left p =
+    EntriesPacked entries words₀ bytes₀ words bytes run left p
 
 abbrev μ-loop : tie.MeasureT-loop
-μ-loop words₀ bytes₀ entries at₀ left₀ p₀ words bytes at left p = left
+μ-loop words₀ bytes₀ entries run₀ left₀ p₀ words bytes run left p = left
 
 loop-holds : tie.Need-loop-holds Inv-loop μ-loop
 loop-holds c = search (none-packed, needs)
@@ -17,11 +18,14 @@ loop-holds c = search (none-packed, needs)
 entry-at-requires : tie.Need-entry-at-requires Inv-loop μ-loop
 entry-at-requires c κs = search needs
 
-move-bytes-requires : tie.Need-move-bytes-requires Inv-loop μ-loop
-move-bytes-requires c κs = search (source-within, target-within, needs)
+run-up-to-requires : tie.Need-run-up-to-requires Inv-loop μ-loop
+run-up-to-requires c κs = search (run-before, place-within, needs)
 
 add-words : tie.Need-add-words Inv-loop μ-loop
-add-words c = search needs
+add-words c = record { fits = search (new-place-fits, needs) }
+
+add-words-2 : tie.Need-add-words-2 Inv-loop μ-loop
+add-words-2 c = search needs
 
 mul-words : tie.Need-mul-words Inv-loop μ-loop
 mul-words c = search needs
@@ -29,8 +33,8 @@ mul-words c = search needs
 slice-write-words : tie.Need-slice-write-words Inv-loop μ-loop
 slice-write-words c = search needs
 
-add-at : tie.Need-add-at Inv-loop μ-loop
-add-at c = record { fits = search (end-fits, needs) }
+add-run : tie.Need-add-run Inv-loop μ-loop
+add-run c = record { fits = search (new-length-fits, needs) }
 
 sub-left : tie.Need-sub-left Inv-loop μ-loop
 sub-left c = search needs
@@ -43,6 +47,12 @@ loop-less c = search needs
 
 loop-again : tie.Need-loop-again Inv-loop μ-loop
 loop-again c = search (entry-packed, needs)
+
+move-bytes-requires : tie.Need-move-bytes-requires Inv-loop μ-loop
+move-bytes-requires c κs = search (target-within, needs)
+
+add-result : tie.Need-add-result Inv-loop μ-loop
+add-result c = search (target-within, needs)
 
 same-length : tie.Need-same-length Inv-loop μ-loop
 same-length c = search needs
@@ -61,15 +71,18 @@ pack-bodies-spec =
     μ-loop
     loop-holds
     entry-at-requires
-    move-bytes-requires
+    run-up-to-requires
     add-words
+    add-words-2
     mul-words
     slice-write-words
-    add-at
+    add-run
     sub-left
     add-p
     loop-less
     loop-again
+    move-bytes-requires
+    add-result
     same-length
     same-length-2
     returns)
