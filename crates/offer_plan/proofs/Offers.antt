@@ -73,9 +73,6 @@ module _ (w b : List ℕ) (ok : wellFormed w (length b) ≡ true) (l : PendingFl
     pub stay-start : p + recordWords * n < 18446744073709551616
     stay-start = omega (arith, leaving-few, handed-start)
 
-    pub leaving-within : p + recordWords * n ≤ length w
-    leaving-within = omega (arith, leaving-few, handed-within)
-
     pub stay-within : p + recordWords * n + recordWords * (f .templates - n) ≤ length w
     stay-within = omega (arith, leaving-few, handed-within)
 

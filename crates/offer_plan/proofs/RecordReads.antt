@@ -15,6 +15,7 @@ use Rattle.table.specs.declared.TemplateRecord.{TemplateRecord}
 use Rattle.table.specs.declared.LabelFound.{LabelFound}
 use Rattle.table.specs.declared.LabelFound.the-variants as Label
 use Rattle.table.specs.Reads.{labelOf}
+use Rattle.table.specs.Passes.{firstLabel}
 use Rattle.table_records.specs.Choose.{evictionsOf, liveRecords, firstLive}
 use Rattle.cache_model.specs.Bodies.{Body, Template, size, sumBodies, sumTemplates, keep, bodiesOf, without}
 use Rattle.cache_model.specs.Bodies.{unlessEmpty}
@@ -56,6 +57,27 @@ module _ (b : List ℕ) (es : List Entry) where
   none-evicted most more [] fits room = refl
   none-evicted most more (r ∷ rs) fits room =
       rw (le-ltb most (sumTemplates size (templatesAt b es (r ∷ rs)) + more) (omega arith))
+
+  -- the first template's bytes are some of all
+  abbrev pub firstSize : List TemplateRecord → ℕ
+  firstSize rs = sumBodies size (bodiesAt b (firstLabel rs) es)
+
+  pub first-size : (rs : List TemplateRecord) → 0 < sumTemplates size (templatesAt b es rs) →
+      firstSize rs ≤ sumTemplates size (templatesAt b es rs)
+  first-size [] some = omega arith
+  first-size (r ∷ rs) some = omega arith
+
+  -- one where there is room without its bytes
+  pub one-evicted : (most more : ℕ) (rs : List TemplateRecord) → more ≤ most →
+      most - more < sumTemplates size (templatesAt b es rs) →
+      sumTemplates size (templatesAt b es rs) - firstSize rs ≤ most - more → 1 ≡ evictions most more (templatesAt b es rs)
+  unfolding evictions
+  one-evicted most more [] fits full room = omega arith
+  one-evicted most more (r ∷ rs) fits full room =
+      rw (
+        lt-ltb most (sumTemplates size (templatesAt b es (r ∷ rs)) + more) (omega arith),
+        ← none-evicted most more rs fits (omega arith),
+      )
 
   -- `live` counts the bodies of these records that pass a test
   module _ (p : Body → Bool) (live : List ℕ) where

@@ -48,17 +48,21 @@ module _ (b : List ℕ) (k : ℕ) where
   module _ (small : k < 1024) (es : List Entry) (within : Within (length b) es)
       (short : All (λ e. e .len ≤ 18446744073709551615) es) where
     -- with no time to live no body is expired
+    all-unaged : (clock : ℕ) → sumBodies size (keep (bodyStays (liveTest None clock) k) (bodiesAt b k es))
+        ≡ sumBodies size (bodiesAt b k es)
+    all-unaged clock =
+        ap (sumBodies size) (keep-unaged (liveTest None clock) es within short ∙ keep-true (bodiesAt b k es))
+
+    pub sizes-most : (most : ℕ) → Placed 0 most es → sumBodies size (bodiesAt b k es) ≤ most
+    sizes-most most p =
+        let q = liveTest None 0 in
+        omega (arith, all-unaged 0, label-bytes b q k es within, label-bytes-most q k 0 most es (omega arith) p)
+
     pub sizes-summed : (clock most : ℕ) → most ≤ sumMost → Placed 0 most es →
         getD (summed (liveTest None clock) true zeros es) k 0 ≡ sumBodies size (bodiesAt b k es)
     sizes-summed clock most room p =
         let q = liveTest None clock in
-        let all = ap (sumBodies size) (keep-unaged q es within short ∙ keep-true (bodiesAt b k es)) in
-        omega (
-          arith,
-          summed-label q true es k small,
-          label-bytes b q k es within,
-          label-bytes-most q k 0 most es (omega arith) p,
-        )
+        omega (arith, all-unaged clock, summed-label q true es k small, label-bytes b q k es within, sizes-most most p)
 
     pub live-summed : (ttl : Ttl) (clock : ℕ) → length es ≤ sumMost →
         getD (summed (liveTest ttl clock) false zeros es) k 0

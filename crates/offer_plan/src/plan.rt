@@ -6,7 +6,9 @@ ghost use lib.ListN.{length, replicate};
 ghost use Rattle.config.specs.Limits.{recordWords, entryWords};
 ghost use Rattle.table.specs.Layout.{limitsOf, heldCount, entriesAt};
 ghost use Rattle.table.specs.Table.{tableOf, entriesFrom, recordsFrom};
-ghost use Rattle.table.specs.Reads.{labelIn};
+ghost use Rattle.config.specs.declared.Ttl.the-variants.{None};
+ghost use Rattle.table.specs.Reads.{labelIn, liveFigures};
+ghost use Rattle.table.specs.Passes.{firstLabel};
 ghost use Rattle.table.specs.WellFormed.{wellFormed};
 ghost use Rattle.cache_model.specs.Removal.{evictions};
 ghost use Rattle.pending_flows.specs.Header.{figuresAt};
@@ -19,11 +21,13 @@ use config::RECORD_WORDS;
 use config::Ttl;
 use pending_flows::HeaderFigures;
 use table::LABELS;
+use table::LiveFigures;
 use table::RecordFound;
 use table::count_in;
 use table::first_label;
 use table::label_for;
 use table::live_count;
+use table::live_figures;
 use table::record_of;
 use table::records_at;
 use table_entries::StayTest;
@@ -96,8 +100,21 @@ fn others_fill(found: RecordFound, records: usize, most: usize) -> bool
     }
 }
 
-// Step 2: how many least recent templates go until a body of this length fits.
-fn evictions_for(
+// How many bodies and bytes the first record has: all of them, as with no time to live none is expired.
+fn first_figures(words: &[u64], entries: usize, from: usize, records: usize) -> LiveFigures
+    requires { ⌜ entriesAt + entryWords * entries ≤ length (now words) ⌝ }
+    requires { ⌜ from + recordWords * records ≤ length (now words) ⌝ }
+    ensures { λ r.
+        ⌜ r ≡ liveFigures None 0 (firstLabel (recordsFrom (now (words .entry)) from records)) (entriesFrom
+        (now (words .entry)) entriesAt entries) ⌝ }
+{
+    let label = first_label(words, from, records);
+    let ttl = Ttl::None;
+    live_figures(words, entries, label, ttl, 0)
+}
+
+// How many least recent templates go until a body of this length fits, by the bytes of each label.
+fn evictions_by_sizes(
     words: &[u64],
     bytes: &[u8],
     limits: PendingFlowsConfig,
@@ -111,9 +128,6 @@ fn evictions_for(
         .held) ⌝ }
 {
     let room = (limits.max_total_bytes - len) as u64;
-    if figures.total <= room {
-        return 0;
-    }
     // expired bodies count: they go after this step, and with no time to live none is expired
     let ttl = Ttl::None;
     let mut sizes = [0u32; LABELS];
@@ -132,6 +146,34 @@ fn evictions_for(
         figures.total,
         &sizes,
     )
+}
+
+// Step 2: how many least recent templates go until a body of this length fits. Mostly that is none or one, and then
+// no array is needed.
+fn evictions_for(
+    words: &[u64],
+    bytes: &[u8],
+    limits: PendingFlowsConfig,
+    figures: HeaderFigures,
+    len: usize,
+) -> usize
+    requires { ⌜ (wellFormed (now words) (length (now bytes)) ≡ true) × (limits ≡ limitsOf (now words)) ⌝ }
+    requires { ⌜ (figures ≡ figuresAt (now words)) × (len ≤ limits .«max_total_bytes») ⌝ }
+    ensures { λ r.
+        ⌜ r ≡ evictions (limits .«max_total_bytes») len (cacheOf (tableOf (now (words .entry))) (now (bytes .entry))
+        .held) ⌝ }
+{
+    let room = (limits.max_total_bytes - len) as u64;
+    if figures.total <= room {
+        return 0;
+    }
+    let entries = figures.entries as usize;
+    let held = figures.templates as usize;
+    let first = first_figures(words, entries, records_at(limits), held);
+    if figures.total - first.bytes <= room {
+        return 1;
+    }
+    evictions_by_sizes(words, bytes, limits, figures, len)
 }
 
 // The label of the least recent template with live bodies, where those templates are as many as there may be; else

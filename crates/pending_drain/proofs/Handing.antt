@@ -1,5 +1,5 @@
 -- The record of what is handed out, and the removal before. Assumes nothing.
-use mathlib.Core.Path.{_≡_, refl, ap, subst, _∙_}
+use mathlib.Core.Path.{_≡_, refl, subst}
 use mathlib.Core.List.{List}
 use Prim.Native.Nat.{ℕ, _+_, _*_}
 use native.Mathlib.Omega.{arith}
@@ -10,7 +10,6 @@ use Rattle.table.specs.declared.TemplateRecord.{TemplateRecord}
 use Rattle.table.specs.Table.{recordsFrom}
 use Rattle.table_records.specs.Add.{Adds}
 use Rattle.table_records.specs.Choose.{skipping}
-use Rattle.table_records.proofs.Skips.{length-skipping}
 use Rattle.pending_flows.specs.declared.header.HeaderFigures.{HeaderFigures}
 use Rattle.pending_calls.specs.declared.removal.Removed.{Removed}
 use Rattle.pending_calls.specs.Removal.{unexpired, Removes}
@@ -18,9 +17,6 @@ use Rattle.pending_drain.specs.Handing.{zeros, TakesOut, HandsOut}
 
 pub length-zeros : length zeros ≡ 1024
 length-zeros = length-replicate {A = ℕ} 1024 0
-
-pub skip-long : (rs : List TemplateRecord) {skip : List ℕ} → skip ≡ skipping zeros rs → length skip ≡ 1024
-skip-long rs e = ap length e ∙ length-skipping zeros rs ∙ length-zeros
 
 module _ (p k : ℕ) (t : TemplateRecord) (w : List ℕ) where
   pub nothing-handed : t .count ≡ 0 → HandsOut p k t w w 0

@@ -1,5 +1,5 @@
 use Rattle.offer_plan.proofs.Steps.{entries-within, bodies-few, records-within, room-already}
-use Rattle.offer_plan.proofs.Steps.{room-made}
+use Rattle.offer_plan.proofs.Steps.{first-within, one-makes-room}
 use borrow.Author.Needs.{needs}
 use Rattle.offer_plan.proofs.plan.evictions_for.Statement.{statement}
 use Rattle.offer_plan.proofs.plan.evictions_for.Tie as tie
@@ -10,20 +10,23 @@ sub-room c = search needs
 returns : tie.Need-returns
 returns c = search (room-already, needs)
 
-live-test-requires : tie.Need-live-test-requires
-live-test-requires c κs = search needs
-
-sums-by-label-requires : tie.Need-sums-by-label-requires
-sums-by-label-requires c κs = search (entries-within, needs)
-
 records-at-requires : tie.Need-records-at-requires
 records-at-requires c κs = search (bodies-few, needs)
 
-evictions-of-requires : tie.Need-evictions-of-requires
-evictions-of-requires c κs = search (records-within, needs)
+first-figures-requires : tie.Need-first-figures-requires
+first-figures-requires c κs = search (entries-within, records-within, needs)
+
+sub-if2 : tie.Need-sub-if2
+sub-if2 c = search (first-within, needs)
 
 returns-2 : tie.Need-returns-2
-returns-2 c = search (room-made, needs)
+returns-2 c = search (one-makes-room, needs)
+
+evictions-by-sizes-requires : tie.Need-evictions-by-sizes-requires
+evictions-by-sizes-requires c κs = search needs
+
+returns-3 : tie.Need-returns-3
+returns-3 c = search needs
 
 pub evictions-for-spec : {M : Type 1} → statement M
 evictions-for-spec =
@@ -31,8 +34,9 @@ evictions-for-spec =
     (tie.spec
     sub-room
     returns
-    live-test-requires
-    sums-by-label-requires
     records-at-requires
-    evictions-of-requires
-    returns-2)
+    first-figures-requires
+    sub-if2
+    returns-2
+    evictions-by-sizes-requires
+    returns-3)
