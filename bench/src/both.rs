@@ -298,57 +298,82 @@ impl Both {
         (time, times)
     }
 
-    /// The bytes that an offer moves which evicts or packs: of bodies, or of entries where only
-    /// these move.
-    pub fn moved(&self) -> usize {
+    /// The bytes of bodies that an offer moves which evicts or packs.
+    fn body_bytes_moved(&self) -> usize {
         let Shape { call, per, length, .. } = self.shape;
         match call {
             Call::OfferPacks => self.shape.bodies() * length,
             Call::OfferEvictsBytes => (self.shape.bodies() - per) * length,
-            _ => (self.shape.bodies() - per) * ENTRY_WORDS * 8,
+            _ => 0,
         }
     }
 
-    /// As many bytes of the same area moved at once towards the front, as far as they move in the
+    /// The words of entries that it moves: of those that stay. A gap moves no entry.
+    fn entry_words_moved(&self) -> usize {
+        let Shape { call, per, .. } = self.shape;
+        if call == Call::OfferPacks { 0 } else { (self.shape.bodies() - per) * ENTRY_WORDS }
+    }
+
+    /// The bytes of both.
+    pub fn moved(&self) -> usize {
+        self.body_bytes_moved() + 8 * self.entry_words_moved()
+    }
+
+    /// As many bytes of the same areas moved at once towards the front, as far as they move in the
     /// mean: after a gap by its length, after an eviction by half of what was evicted.
     pub fn memmove(&mut self) -> Spent {
-        let moved = self.moved();
-        let time = match self.shape.call {
-            Call::OfferPacks | Call::OfferEvictsBytes => {
-                let Shape { call, per, length, gap, .. } = self.shape;
-                let from = if call == Call::OfferPacks { gap } else { per.div_ceil(2) * length };
-                let to = (from + moved).min(self.lent.bytes.len());
-                let bytes = black_box(&mut self.lent.bytes);
-                time_of(|| bytes.copy_within(from..to, 0)).0
+        let (body_bytes, entry_words) = (self.body_bytes_moved(), self.entry_words_moved());
+        let Shape { call, per, length, gap, .. } = self.shape;
+        let evicted = per.div_ceil(2);
+        self.lent.restore();
+        let from = if call == Call::OfferPacks { gap } else { evicted * length };
+        let from = from.min(self.lent.bytes.len() - body_bytes);
+        let first = HEADER_WORDS + evicted * ENTRY_WORDS;
+        let bytes = black_box(&mut self.lent.bytes);
+        let words = black_box(&mut self.lent.words);
+        let (time, ()) = time_of(|| {
+            if body_bytes > 0 {
+                bytes.copy_within(from..from + body_bytes, 0);
             }
-            _ => {
-                self.lent.restore();
-                let evicted = self.shape.per.div_ceil(2);
-                let (from, to) = (HEADER_WORDS + evicted * ENTRY_WORDS, HEADER_WORDS);
-                let words = black_box(&mut self.lent.words);
-                time_of(|| words.copy_within(from..from + moved / 8, to)).0
+            if entry_words > 0 {
+                words.copy_within(first..first + entry_words, HEADER_WORDS);
             }
-        };
+        });
         (time, 1)
     }
 
-    /// The least that such an offer must do.
-    pub fn least(&mut self) -> Spent {
+    /// The same work by hand, with the C library's `memmove`.
+    pub fn by_memmove(&mut self) -> Spent {
+        self.by_hand(least::by_memmove)
+    }
+
+    /// The same work by hand, with the instructions that the library is compiled to.
+    pub fn by_sse2(&mut self) -> Spent {
+        self.by_hand(least::by_sse2)
+    }
+
+    fn by_hand(&mut self, moves: least::Move) -> Spent {
         self.lent.restore();
         let shape = self.shape;
         let Lent { words, bytes, records_at, .. } = &mut self.lent;
-        (time_of(|| least::offer(&shape, words, *records_at, bytes)).0, 1)
+        (time_of(|| least::offer(&shape, words, *records_at, bytes, moves)).0, 1)
     }
 
-    /// It leaves the entries that the library leaves, but for the one that is added.
-    pub fn check_least(&mut self) {
+    /// By hand the entries and bodies are left that the library leaves, but for those that it adds.
+    pub fn check_by_hand(&mut self, moves: least::Move) {
+        let content = (0..self.lent.bytes.len()).map(|at| (at * 31 % 251) as u8);
+        let content: Vec<u8> = content.collect();
+        self.lent.bytes.copy_from_slice(&content);
         self.ours();
-        let ours = self.lent.words.clone();
+        let (our_words, our_bytes) = (self.lent.words.clone(), self.lent.bytes.clone());
         self.lent.restore();
+        self.lent.bytes.copy_from_slice(&content);
         let Lent { words, bytes, records_at, .. } = &mut self.lent;
-        let kept = least::offer(&self.shape, words, *records_at, bytes);
+        let kept = least::offer(&self.shape, words, *records_at, bytes, moves);
         let end = HEADER_WORDS + ENTRY_WORDS * kept;
-        assert_eq!(ours[10], kept as u64 + 1, "{:?}", self.shape);
-        assert!(ours[HEADER_WORDS..end] == words[HEADER_WORDS..end], "{:?}", self.shape);
+        assert_eq!(our_words[10], kept as u64 + 1, "{:?}", self.shape);
+        assert!(our_words[HEADER_WORDS..end] == words[HEADER_WORDS..end], "{:?}", self.shape);
+        let moved = self.body_bytes_moved();
+        assert!(our_bytes[..moved] == self.lent.bytes[..moved], "{:?}", self.shape);
     }
 }

@@ -2,6 +2,7 @@
 
 use crate::both::Both;
 use crate::figures::{grouped, ratio, time};
+use crate::least;
 use crate::shape::{Call, Order, Shape};
 use crate::timing::{Budget, Taken, interleaved, median_of};
 use std::time::{Duration, Instant};
@@ -198,14 +199,14 @@ const MOVES: [(usize, usize, usize); 10] = [
 /// Lengths of bodies, and gaps that they are moved by: source and target overlap.
 const GAPS: [(usize, usize); 4] = [(1_500, 1), (1_500, 31), (1_500, 100), (64, 1)];
 
-/// Offers that move what others left, beside one memmove of the same bytes, and beside the least
-/// that such an offer must do. Such large moves hang on what else uses the memory in that moment,
-/// so the ratios are medians of those of the rounds.
+/// Offers that move what others left, beside one memmove of the same bytes, the offer that moves
+/// nothing, and the same work by hand. Such large moves hang on what else uses the memory in that
+/// moment, so the ratios are medians of those of the rounds.
 pub fn print_moves(budget: Budget) {
     println!("\n### Offers that move bodies or entries\n");
     println!(
-        "| moved | templates | bodies | of bytes | gap | bytes moved | ours | memmove | least \
-         | ours / memmove | least / memmove | ours / least |"
+        "| moved | templates | bodies | of bytes | gap | bytes moved | memmove | ours \
+         | ours / memmove | less the offer | by hand | by hand, SSE2 |"
     );
     println!("|---|---:|---:|---:|---:|---:|---:|---:|---:|---:|---:|---:|");
     for call in [Call::OfferPacks, Call::OfferEvictsBytes] {
@@ -222,19 +223,32 @@ pub fn print_moves(budget: Budget) {
     }
 }
 
+/// An offer that moves, and one to a cache of as many bodies that moves nothing.
+struct Moves {
+    moving: Both,
+    resting: Both,
+}
+
 fn print_move(budget: Budget, shape: Shape) {
-    let mut both = Both::new(shape);
-    both.check_least();
+    let rests = Shape::new(Call::OfferHeld, shape.templates, shape.bodies(), false, shape.length);
+    let mut moves = Moves { moving: Both::new(shape), resting: Both::new(rests) };
+    moves.moving.check_by_hand(least::by_memmove);
+    moves.moving.check_by_hand(least::by_sse2);
     let taken = interleaved(
         budget,
-        &mut both,
-        &mut [&mut Both::ours, &mut Both::memmove, &mut Both::least],
+        &mut moves,
+        &mut [
+            &mut |moves: &mut Moves| moves.moving.ours(),
+            &mut |moves: &mut Moves| moves.moving.memmove(),
+            &mut |moves: &mut Moves| moves.moving.by_memmove(),
+            &mut |moves: &mut Moves| moves.moving.by_sse2(),
+            &mut |moves: &mut Moves| moves.resting.ours(),
+        ],
     );
-    let [ours, memmove, least] = &taken[..] else { unreachable!("three sides") };
     let moved = match shape.call {
         Call::OfferPacks => "all bodies, to close a gap",
-        Call::OfferEvictsBytes => "all bodies but those evicted",
-        _ => "entries of bodies not evicted",
+        Call::OfferEvictsBytes => "bodies and entries not evicted",
+        _ => "entries not evicted",
     };
     println!(
         "| {moved} | {} | {} | {} | {} | {} | {} | {} | {} | {} | {} | {} |",
@@ -242,13 +256,13 @@ fn print_move(budget: Budget, shape: Shape) {
         grouped(shape.bodies()),
         grouped(shape.length),
         grouped(shape.gap),
-        grouped(both.moved()),
-        time(ours.figure()),
-        time(memmove.figure()),
-        time(least.figure()),
+        grouped(moves.moving.moved()),
+        time(taken[1].figure()),
+        time(taken[0].figure()),
         ratio(median_of(&taken, |round| round[0] / round[1])),
+        ratio(median_of(&taken, |round| (round[0] - round[4]) / round[1])),
         ratio(median_of(&taken, |round| round[2] / round[1])),
-        ratio(median_of(&taken, |round| round[0] / round[2])),
+        ratio(median_of(&taken, |round| round[3] / round[1])),
     );
 }
 
