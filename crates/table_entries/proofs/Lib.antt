@@ -4,7 +4,6 @@ pub mod LabelSums
 pub mod Lengths
 pub mod Frames
 pub mod SweepPass
-pub mod LabelPass
 pub mod Swept
 pub mod Ends
 pub mod Packed

@@ -3,7 +3,7 @@ use mathlib.Core.Path.{_≡_}
 use mathlib.Core.List.{List, [], _∷_}
 use mathlib.Core.Bool.{Bool, cond}
 use Prim.Native.Nat.{ℕ, _+_, _*_, _≤_}
-use lib.Dec.{ltb, eqb}
+use lib.Dec.{ltb}
 use lib.ListN.{getD, set, take, drop}
 use Rattle.config.specs.Limits.{entryWords}
 use Rattle.table.specs.declared.Entry.{Entry}
@@ -37,18 +37,5 @@ pub record Sweeps (q : StayTest) (m : ℕ) (skip w w′ : List ℕ) (r : Kept) :
   pub few : r .entries ≤ m
   pub entries : entriesFrom w′ entriesAt (r .entries) ≡ swept q skip (entriesFrom w entriesAt m)
   pub bytes : r .bytes ≡ lensWord (swept q skip (entriesFrom w entriesAt m))
-  pub head : take entriesAt w′ ≡ take entriesAt w
-  pub tail : drop (entriesAt + entryWords * m) w′ ≡ drop (entriesAt + entryWords * m) w
-
--- the entries of other labels
-unfoldable pub othersThan : ℕ → List Entry → List Entry
-othersThan label [] = []
-othersThan label (e ∷ es) = cond (eqb label (e .label)) (othersThan label es) (e ∷ othersThan label es)
-
--- of the first m entries those of one label go; no other word changes
-pub record SweepsLabel (label m : ℕ) (w w′ : List ℕ) (r : Kept) : Type 0 where
-  pub few : r .entries ≤ m
-  pub entries : entriesFrom w′ entriesAt (r .entries) ≡ othersThan label (entriesFrom w entriesAt m)
-  pub bytes : r .bytes ≡ lensWord (othersThan label (entriesFrom w entriesAt m))
   pub head : take entriesAt w′ ≡ take entriesAt w
   pub tail : drop (entriesAt + entryWords * m) w′ ≡ drop (entriesAt + entryWords * m) w

@@ -1,14 +1,13 @@
 // Passes over the entries of a table: sums by label, the sweep, and packing (docs/LAYOUT.md).
-mod label_sweeps;
 mod pack;
 mod stay;
 mod sums;
 mod sweeps;
 
 use config::Ttl;
-pub use label_sweeps::sweep_label;
 pub use pack::last_end;
 pub use pack::pack_bodies;
+pub use stay::stays;
 pub use sums::sums_by_label;
 pub use sweeps::Kept;
 pub use sweeps::put_entry;

@@ -1,20 +1,23 @@
-// The sweep of one label: its entries go, the others close up in their order.
+// The sweep by a test on each entry alone: those that fail go, the others close up in their order.
 ghost use Prim.Native.Nat.{_+_, _*_, _≤_};
 ghost use lib.ListN.{length};
 ghost use Rattle.config.specs.Limits.{entryWords};
 ghost use Rattle.table.specs.Layout.{entriesAt};
-ghost use Rattle.table_entries.specs.Sweep.{SweepsLabel};
-use super::sweeps::Kept;
-use super::sweeps::put_entry;
+ghost use Rattle.table_entries.specs.Stays.{stays};
+ghost use Rattle.entry_sweeps.specs.KeptBy.{SweepsBy};
 use config::ENTRY_WORDS;
 use config::HEADER_WORDS;
 use std::num::wrapping_add_u64;
 use table::entry_at;
+use table_entries::Kept;
+use table_entries::StayTest;
+use table_entries::put_entry;
+use table_entries::stays;
 
-// Keeps of the entries those of other labels, in order.
-pub fn sweep_label(words: &mut [u64], entries: usize, label: u64) -> Kept
+// Keeps of the entries those that stay by themselves, in order.
+pub fn sweep_staying(words: &mut [u64], entries: usize, test: StayTest) -> Kept
     requires { ⌜ entriesAt + entryWords * entries ≤ length (now words) ⌝ }
-    ensures { λ r. ⌜ SweepsLabel label entries (now (words .entry)) (now (words .exit)) r ⌝ }
+    ensures { λ r. ⌜ SweepsBy (stays test) entries (now (words .entry)) (now (words .exit)) r ⌝ }
 {
     let mut kept: usize = 0;
     let mut bytes: u64 = 0;
@@ -23,7 +26,7 @@ pub fn sweep_label(words: &mut [u64], entries: usize, label: u64) -> Kept
     let mut to = HEADER_WORDS;
     while left > 0 {
         let entry = entry_at(words, from);
-        if label != entry.label {
+        if stays(test, entry) {
             put_entry(words, to, entry);
             kept += 1;
             bytes = wrapping_add_u64(bytes, entry.len);

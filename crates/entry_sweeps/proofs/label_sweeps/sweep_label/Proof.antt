@@ -1,13 +1,15 @@
 use mathlib.Core.Path.{_∙_}
 use mathlib.Core.Logic.{⊎-elim}
 use borrow.Author.Needs.{needs}
-use Rattle.table_entries.proofs.LabelPass.{OthersKept, none-kept, others-kept, own-goes, other-kept}
-use Rattle.table_entries.proofs.label_sweeps.sweep_label.Statement.{statement}
-use Rattle.table_entries.proofs.label_sweeps.sweep_label.Tie as tie
+use Rattle.entry_sweeps.specs.KeptBy.{otherThan}
+use Rattle.entry_sweeps.proofs.KeptPass.{PassKept, none-kept, all-passed}
+use Rattle.entry_sweeps.proofs.KeptPass.{other-kept, own-left-out}
+use Rattle.entry_sweeps.proofs.label_sweeps.sweep_label.Statement.{statement}
+use Rattle.entry_sweeps.proofs.label_sweeps.sweep_label.Tie as tie
 
 abbrev Inv-loop : tie.InvT-loop
 Inv-loop words₀ entries label kept₀ bytes₀ left₀ from₀ to₀ words kept bytes left from to =
-    OthersKept label entries words₀ words kept bytes left from to
+    PassKept (otherThan label) entries words₀ words kept bytes left from to
 
 abbrev μ-loop : tie.MeasureT-loop
 μ-loop words₀ entries label kept₀ bytes₀ left₀ from₀ to₀ words kept bytes left from to = left
@@ -43,14 +45,14 @@ loop-again : tie.Need-loop-again Inv-loop μ-loop
 loop-again c =
     ⊎-elim
     (λ v. rw (v .6 ∙ v .2 .ensures, v .7, v .8, v .9) (search (other-kept, needs)))
-    (λ v. rw (v .1, v .2, v .3, v .4) (search (own-goes, needs)))
+    (λ v. rw (v .1, v .2, v .3, v .4) (search (own-left-out, needs)))
     (c .if1 .came)
 
 same-length : tie.Need-same-length Inv-loop μ-loop
 same-length c = search needs
 
 returns : tie.Need-returns Inv-loop μ-loop
-returns c = search (others-kept, needs)
+returns c = search (all-passed, needs)
 
 pub sweep-label-spec : {M : Type 1} → statement M
 sweep-label-spec =

@@ -1,36 +1,38 @@
--- The sweep of one label, turn by turn: what is kept, and then the others of what is left. Assumes nothing.
+-- The sweep by a test on each entry, turn by turn: what is kept, and then what is kept of what is left. Assumes nothing.
 use mathlib.Core.Path.{_≡_, refl, sym, ap, _∙_}
 use mathlib.Core.List.{List, [], _∷_, _++_, append-assoc, append-nil}
 use Prim.Native.Nat.{ℕ, _+_, _*_, _-_, _%_, _^_, _≤_, _<_}
 use native.Mathlib.Nat.{mod-add-mod}
 use native.Mathlib.Omega.{arith}
 use lib.ListN.{length, take, drop}
+use mathlib.Core.Bool.{Bool, true, false}
 use borrow.Author.Tests.{eq-eqb, ne-eqb}
 use Rattle.config.specs.Limits.{entryWords}
 use Rattle.table.specs.declared.Entry.{Entry}
 use Rattle.table.specs.Layout.{entriesAt}
 use Rattle.table.specs.Table.{entryAt, entriesFrom}
 use Rattle.table.proofs.Words.{entries-first, entries-none}
 use Rattle.table_entries.specs.Sums.{lensSum, lensWord}
-use Rattle.table_entries.specs.Sweep.{putEntry, othersThan, SweepsLabel}
+use Rattle.table_entries.specs.Sweep.{putEntry}
+use Rattle.entry_sweeps.specs.KeptBy.{keptBy, otherThan, SweepsBy}
 use Rattle.table_entries.proofs.Frames.{entries-below, entries-above, entries-more, length-put, take-put}
 use Rattle.table_entries.proofs.Frames.{drop-put, entry-put}
 use Rattle.table_entries.proofs.Lengths.{lens-more}
 
 -- `left` entries are left, from word `from` on; `kept` are kept, of so many bytes, up to word `to`
-pub record OthersKept (label entries : ℕ) (w₀ w : List ℕ) (kept bytes left from to : ℕ) : Type 0 where
+pub record PassKept (p : Entry → Bool) (entries : ℕ) (w₀ w : List ℕ) (kept bytes left from to : ℕ) : Type 0 where
   pub filled : to ≡ entriesAt + entryWords * kept
   pub reached : from + entryWords * left ≡ entriesAt + entryWords * entries
   pub few : kept + left ≤ entries
   pub same-length : length w ≡ length w₀
-  pub rest : entriesFrom w entriesAt kept ++ othersThan label (entriesFrom w from left)
-      ≡ othersThan label (entriesFrom w₀ entriesAt entries)
+  pub rest : entriesFrom w entriesAt kept ++ keptBy p (entriesFrom w from left)
+      ≡ keptBy p (entriesFrom w₀ entriesAt entries)
   pub sum : bytes ≡ lensWord (entriesFrom w entriesAt kept)
   pub head : take entriesAt w ≡ take entriesAt w₀
   pub tail : drop (entriesAt + entryWords * entries) w ≡ drop (entriesAt + entryWords * entries) w₀
 
-module _ (label entries : ℕ) where
-  pub none-kept : (w : List ℕ) → OthersKept label entries w w 0 0 entries entriesAt entriesAt
+module _ (p : Entry → Bool) (entries : ℕ) where
+  pub none-kept : (w : List ℕ) → PassKept p entries w w 0 0 entries entriesAt entriesAt
   unfolding entriesFrom lensSum
   none-kept w = record {
     filled = refl;
@@ -44,13 +46,13 @@ module _ (label entries : ℕ) where
   }
 
   module _ {w₀ w : List ℕ} {kept bytes left from to : ℕ}
-      (inv : OthersKept label entries w₀ w kept bytes left from to) where
-    all-kept : left ≤ 0 → entriesFrom w entriesAt kept ≡ othersThan label (entriesFrom w₀ entriesAt entries)
-    unfolding othersThan
+      (inv : PassKept p entries w₀ w kept bytes left from to) where
+    all-kept : left ≤ 0 → entriesFrom w entriesAt kept ≡ keptBy p (entriesFrom w₀ entriesAt entries)
+    unfolding keptBy
     all-kept h = sym (append-nil (entriesFrom w entriesAt kept)) ∙ (rw (entries-none w from left h) at (inv .rest))
 
-    pub others-kept : left ≤ 0 → SweepsLabel label entries w₀ w (record { entries = kept; bytes = bytes })
-    others-kept h = record {
+    pub all-passed : left ≤ 0 → SweepsBy p entries w₀ w (record { entries = kept; bytes = bytes })
+    all-passed h = record {
       few = omega (arith, inv .few);
       entries = all-kept h;
       bytes = inv .sum ∙ ap lensWord (all-kept h);
@@ -58,16 +60,16 @@ module _ (label entries : ℕ) where
       tail = inv .tail;
     }
 
-    module _ (e : Entry) (more : 0 < left) (is : e ≡ entryAt w from) where
+    module _ (e : Entry) (v : Bool) (more : 0 < left) (is : e ≡ entryAt w from) (test : v ≡ p e) where
       abbrev later : List Entry
       later = entriesFrom w (from + entryWords) (left - 1)
 
-      pub own-goes : label ≡ e .label →
-          OthersKept label entries w₀ w kept bytes (left - 1) (from + entryWords) to
-      unfolding othersThan
-      own-goes same =
-          let gone : othersThan label (entriesFrom w from left) ≡ othersThan label later =
-          rw (entries-first w from left more e is, eq-eqb label (e .label) same) in
+      pub entry-left-out : v ≡ false →
+          PassKept p entries w₀ w kept bytes (left - 1) (from + entryWords) to
+      unfolding keptBy
+      entry-left-out fails =
+          let gone : keptBy p (entriesFrom w from left) ≡ keptBy p later =
+          rw (entries-first w from left more e is, ← test, fails) in
           record {
             filled = inv .filled;
             reached = omega (arith, inv .reached);
@@ -79,13 +81,13 @@ module _ (label entries : ℕ) where
             tail = inv .tail;
           }
 
-      module _ (other : label ≡ e .label → ⊥) (room : entriesAt + entryWords * entries ≤ length w₀) where
+      module _ (passes : v ≡ true) (room : entriesAt + entryWords * entries ≤ length w₀) where
         abbrev w′ : List ℕ
         w′ = putEntry w to e
 
-        stays-first : othersThan label (entriesFrom w from left) ≡ e ∷ othersThan label later
-        unfolding othersThan
-        stays-first = rw (entries-first w from left more e is, ne-eqb label (e .label) other)
+        stays-first : keptBy p (entriesFrom w from left) ≡ e ∷ keptBy p later
+        unfolding keptBy
+        stays-first = rw (entries-first w from left more e is, ← test, passes)
 
         same-later : entriesFrom w′ (from + entryWords) (left - 1) ≡ later
         same-later =
@@ -101,9 +103,9 @@ module _ (label entries : ℕ) where
             ap (entryAt w′) at ∙ entry-put w to e (omega (arith, inv)) in
             rw (entries-more w′ entriesAt kept, before, stored)
 
-        pub other-kept : (bytes′ : ℕ) → bytes′ ≡ (bytes + e .len) % 2 ^ 64 →
-            OthersKept label entries w₀ w′ (kept + 1) bytes′ (left - 1) (from + entryWords) (to + entryWords)
-        other-kept bytes′ adds = record {
+        pub entry-kept : (bytes′ : ℕ) → bytes′ ≡ (bytes + e .len) % 2 ^ 64 →
+            PassKept p entries w₀ w′ (kept + 1) bytes′ (left - 1) (from + entryWords) (to + entryWords)
+        entry-kept bytes′ adds = record {
           filled = omega (arith, inv .filled);
           reached = omega (arith, inv .reached);
           few = omega (arith, inv .few);
@@ -114,3 +116,19 @@ module _ (label entries : ℕ) where
           head = take-put w to e entriesAt (omega (arith, inv .filled)) ∙ inv .head;
           tail = drop-put w to e (entriesAt + entryWords * entries) (omega (arith, inv)) ∙ inv .tail;
         }
+
+-- by the test for other labels
+module _ (label entries : ℕ) {w₀ w : List ℕ} {kept bytes left from to : ℕ}
+    (inv : PassKept (otherThan label) entries w₀ w kept bytes left from to) (e : Entry) (more : 0 < left)
+    (is : e ≡ entryAt w from) where
+  pub own-left-out : label ≡ e .label →
+      PassKept (otherThan label) entries w₀ w kept bytes (left - 1) (from + entryWords) to
+  own-left-out same =
+      entry-left-out (otherThan label) entries inv e (otherThan label e) more is refl (rw (eq-eqb label (e .label) same))
+
+  pub other-kept : (label ≡ e .label → ⊥) → entriesAt + entryWords * entries ≤ length w₀ → (bytes′ : ℕ) →
+      bytes′ ≡ (bytes + e .len) % 2 ^ 64 →
+      PassKept (otherThan label) entries w₀ (putEntry w to e) (kept + 1) bytes′ (left - 1) (from + entryWords)
+      (to + entryWords)
+  other-kept other room =
+      entry-kept (otherThan label) entries inv e (otherThan label e) more is refl (rw (ne-eqb label (e .label) other)) room

@@ -1,0 +1,86 @@
+-- What a sweep by a test on each entry keeps, where only entries of one label can fail. Assumes nothing.
+use mathlib.Core.Path.{_≡_, refl, sym, ap, _∙_}
+use mathlib.Core.Bool.{Bool, true, false}
+use mathlib.Core.List.{List, [], _∷_}
+use Prim.Native.Nat.{ℕ, suc, _+_, _≤_}
+use native.Mathlib.Omega.{arith}
+use native.Mathlib.Decide.{ℕ-discrete}
+use lib.ListN.{length, getD}
+use Rattle.config.proofs.Tests.{by-case}
+use Rattle.config.proofs.Lists.{All}
+use Rattle.table.specs.declared.Entry.{Entry}
+use Rattle.table.specs.Table.{tally}
+use Rattle.table.proofs.Labels.{tally-here, tally-later}
+use Rattle.table_entries.specs.declared.StayTest.{StayTest}
+use Rattle.table_entries.specs.Stays.{stays}
+use Rattle.table_entries.specs.Sweep.{swept}
+use Rattle.entry_sweeps.specs.KeptBy.{keptBy}
+
+-- where nothing is to be skipped, a sweep keeps what stays by itself
+pub swept-unskipped : (q : StayTest) (skip : List ℕ) (es : List Entry) → All (λ e. getD skip (e .label) 0 ≡ 0) es →
+    swept q skip es ≡ keptBy (stays q) es
+unfolding swept keptBy
+swept-unskipped q skip [] n = refl
+swept-unskipped q skip (e ∷ es) n = rw (n .0, swept-unskipped q skip es (n .1))
+
+module _ (p : Entry → Bool) where
+  -- what holds of a first entry and others: it goes, or is kept
+  kept-cases : (P : List Entry → Type 0) (e : Entry) (es : List Entry) → (p e ≡ false → P (keptBy p es)) →
+      (p e ≡ true → P (e ∷ keptBy p es)) → P (keptBy p (e ∷ es))
+  unfolding keptBy
+  kept-cases P e es goes stays = by-case P (p e) stays goes
+
+  pub length-kept-by : (es : List Entry) → length (keptBy p es) ≤ length es
+  unfolding keptBy
+  length-kept-by [] = omega arith
+  length-kept-by (e ∷ es) =
+      kept-cases (λ l. length l ≤ suc (length es)) e es (λ _. omega (arith, length-kept-by es))
+      (λ _. omega (arith, length-kept-by es))
+
+  pub all-kept-by : (P : Entry → Type 0) (es : List Entry) → All P es → All P (keptBy p es)
+  unfolding keptBy
+  all-kept-by P [] a = tt
+  all-kept-by P (e ∷ es) a =
+      kept-cases (λ l. All P l) e es (λ _. all-kept-by P es (a .1)) (λ _. (a .0, all-kept-by P es (a .1)))
+
+  module _ (label : ℕ) where
+    -- entries of other labels pass
+    abbrev pub OthersPass : List Entry → Type 0
+    OthersPass es = All (λ e. ((label ≡ e .label → ⊥) → p e ≡ true)) es
+
+    other-first : (e : Entry) (es : List Entry) → p e ≡ true → keptBy p (e ∷ es) ≡ e ∷ keptBy p es
+    unfolding keptBy
+    other-first e es h = rw h
+
+    -- all entries of another label are kept
+    pub kept-others : (k : ℕ) → (label ≡ k → ⊥) → (es : List Entry) → OthersPass es →
+        tally k (keptBy p es) ≡ tally k es
+    unfolding keptBy
+    kept-others k o [] a = refl
+    kept-others k o (e ∷ es) a = by-label (ℕ-discrete label (e .label)) (kept-others k o es (a .1))
+      where
+        by-label : Dec (label ≡ e .label) → tally k (keptBy p es) ≡ tally k es →
+            tally k (keptBy p (e ∷ es)) ≡ tally k (e ∷ es)
+        by-label (yes d) ih =
+            let later : (l : List Entry) → tally k (e ∷ l) ≡ tally k l = λ l. tally-later k e l (λ z. o (d ∙ sym z)) in
+            kept-cases (λ l. tally k l ≡ tally k (e ∷ es)) e es (λ _. ih ∙ sym (later es))
+            (λ _. later (keptBy p es) ∙ ih ∙ sym (later es))
+        by-label (no d) ih = ap (tally k) (other-first e es (a .0 d)) ∙ rw ih
+
+    -- as many of the label go as entries go
+    pub kept-fewer : (es : List Entry) → OthersPass es →
+        length (keptBy p es) + tally label es ≡ length es + tally label (keptBy p es)
+    unfolding keptBy
+    kept-fewer [] a = refl
+    kept-fewer (e ∷ es) a = by-label (ℕ-discrete label (e .label)) (kept-fewer es (a .1))
+      where
+        by-label : Dec (label ≡ e .label) →
+            length (keptBy p es) + tally label es ≡ length es + tally label (keptBy p es) →
+            length (keptBy p (e ∷ es)) + tally label (e ∷ es) ≡ length (e ∷ es) + tally label (keptBy p (e ∷ es))
+        by-label (yes d) ih =
+            let here : (l : List Entry) → tally label (e ∷ l) ≡ suc (tally label l) = λ l. tally-here label e l d in
+            kept-cases (λ l. length l + tally label (e ∷ es) ≡ length (e ∷ es) + tally label l) e es
+            (λ _. omega (arith, ih, here es)) (λ _. omega (arith, ih, here es, here (keptBy p es)))
+        by-label (no d) ih =
+            let later : (l : List Entry) → tally label (e ∷ l) ≡ tally label l = λ l. tally-later label e l d in
+            rw (other-first e es (a .0 d)) (omega (arith, ih, later es, later (keptBy p es)))

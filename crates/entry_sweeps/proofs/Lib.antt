@@ -1,0 +1,2 @@
+pub mod KeptPass
+pub mod KeptBy
