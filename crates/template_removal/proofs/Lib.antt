@@ -1,0 +1,4 @@
+pub mod ClosesTwice
+pub mod OthersStay
+pub mod TakenLabels
+pub mod TemplateRemoved

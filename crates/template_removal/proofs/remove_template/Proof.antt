@@ -1,0 +1,82 @@
+use mathlib.Core.Path.{_∙_}
+use native.Mathlib.Omega.{arith}
+use borrow.Author.Needs.{needs}
+use Rattle.pending_flows.proofs.Questions.{bodies-few}
+use Rattle.pending_calls.proofs.NoneRemoved.{records-fit, entries-below, records-inside}
+use Rattle.template_removal.proofs.TakenLabels.{taken-few}
+use Rattle.template_removal.proofs.TemplateRemoved.{template-removed}
+use Rattle.template_removal.proofs.remove_template.Statement.{statement}
+use Rattle.template_removal.proofs.remove_template.Tie as tie
+
+-- the call before each
+abbrev start-of : tie.After-records-at → tie.Start
+start-of read = read .before .before .before
+
+abbrev read-of : tie.After-sweep-label → tie.After-records-at
+read-of swept = swept .before .before .before
+
+abbrev swept-of : tie.After-take-label → tie.After-sweep-label
+swept-of taken = taken .before .before .before .before
+
+records-at-requires : tie.Need-records-at-requires
+records-at-requires c κs = search (bodies-few, needs)
+
+add-records : tie.Need-add-records
+add-records c = record { fits = search (records-fit, needs) }
+
+sweep-label-requires : tie.Need-sweep-label-requires
+sweep-label-requires c κs =
+    let read : tie.After-records-at = c .before .before in
+    let start = start-of read in
+    let below = entries-below _ _ (start .pre .0 .0) _ (start .pre .1) _ (start .pre .0 .1) _ (read .records-at .ensures) in
+    let inside = records-inside _ _ (start .pre .0 .0) _ (start .pre .1) _ (start .pre .0 .1) _ (read .records-at .ensures) in
+    omega (arith, below, inside)
+
+take-label-requires : tie.Need-take-label-requires
+take-label-requires c κs =
+    let swept : tie.After-sweep-label = c .before .before .before in
+    let read = read-of swept in
+    let start = start-of read in
+    let inside = records-inside _ _ (start .pre .0 .0) _ (start .pre .1) _ (start .pre .0 .1) _ (read .records-at .ensures) in
+    omega (arith, inside, swept .sweep-label .kept .0)
+
+take-label-requires-2 : tie.Need-take-label-requires-2
+take-label-requires-2 c κs =
+    let taken : tie.After-take-label = c .before .before .before in
+    let swept = swept-of taken in
+    let read = read-of swept in
+    let start = start-of read in
+    let inside = records-inside _ _ (start .pre .0 .0) _ (start .pre .1) _ (start .pre .0 .1) _ (read .records-at .ensures) in
+    omega (
+      arith,
+      inside,
+      swept .sweep-label .kept .0,
+      taken .take-label .kept .0,
+      taken-few _ _ _ _ (taken .take-label .ensures),
+    )
+
+same-length : tie.Need-same-length
+same-length c = search needs
+
+returns : tie.Need-returns
+returns c =
+    let last : tie.After-take-label2 = c .before .before in
+    let taken : tie.After-take-label = last .before .before .before .before in
+    let swept = swept-of taken in
+    let read = read-of swept in
+    let start = start-of read in
+    template-removed _ _ (start .pre .0 .0) _ _ (start .pre .1) (start .pre .0 .1) (read .records-at .ensures)
+    (swept .sweep-label .ensures) (taken .take-label .ensures) (last .take-label2 .ensures)
+    (last .take-label2 .kept .0 ∙ taken .take-label .kept .0 ∙ swept .sweep-label .kept .0)
+
+pub remove-template-spec : {M : Type 1} → statement M
+remove-template-spec =
+    tie.close
+    (tie.spec
+    records-at-requires
+    add-records
+    sweep-label-requires
+    take-label-requires
+    take-label-requires-2
+    same-length
+    returns)
