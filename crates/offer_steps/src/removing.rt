@@ -1,13 +1,14 @@
 // Removing what the plan of an offer removes.
 ghost use mathlib.Core.Path.{_≡_};
 ghost use mathlib.Core.Bool.{true};
-ghost use Prim.Native.Nat.{_+_, _≤_};
+ghost use Prim.Native.Nat.{_+_, _≤_, _<_};
 ghost use lib.ListN.{length};
 ghost use Rattle.table.specs.Layout.{limitsOf, heldCount, entryCount, chanceCount, recordsAt};
 ghost use Rattle.table.specs.WellFormed.{wellFormed};
 ghost use Rattle.pending_flows.specs.Header.{figuresAt};
 ghost use Rattle.pending_calls.specs.Removal.{Removes};
 ghost use Rattle.offer_plan.specs.Plan.{planTest, skipOf, KeepsAll};
+ghost use Rattle.offer_steps.specs.Alone.{GoesAlone};
 use config::PendingFlowsConfig;
 use config::Ttl;
 use offer_plan::OfferPlan;
@@ -18,8 +19,10 @@ use pending_calls::remove_none;
 use pending_calls::remove_whole;
 use pending_flows::HeaderFigures;
 use table::LABELS;
+use table::first_label;
 use table::records_at;
 use table_entries::StayTest;
+use template_removal::remove_template;
 
 // The test by which bodies stay.
 fn stay_test(limits: PendingFlowsConfig, clock: u64, plan: OfferPlan) -> StayTest
@@ -37,7 +40,7 @@ fn stay_test(limits: PendingFlowsConfig, clock: u64, plan: OfferPlan) -> StayTes
 
 // Sweeps by the plan, and closes. The record of the label `apart` goes though its bodies stay. With no time to live,
 // only whole templates go.
-fn remove_some(
+fn remove_skipped(
     words: &mut [u64],
     bytes: &[u8],
     limits: PendingFlowsConfig,
@@ -69,6 +72,62 @@ fn remove_some(
         &mut skip,
         apart,
     )
+}
+
+// With no time to live and nothing handed out: the label of the one template that goes, where no other does; else what
+// is no label.
+fn alone_label(
+    words: &[u64],
+    bytes: &[u8],
+    limits: PendingFlowsConfig,
+    figures: HeaderFigures,
+    plan: OfferPlan,
+) -> u64
+    requires { ⌜ (wellFormed (now words) (length (now bytes)) ≡ true) × (limits ≡ limitsOf (now words)) ⌝ }
+    requires { ⌜ figures ≡ figuresAt (now words) ⌝ }
+    ensures { λ r. ⌜ (r < 1024 → GoesAlone (now (words .entry)) plan r) ⌝ }
+{
+    let ttl = limits.ttl;
+    let Ttl::None = ttl else {
+        return LABELS as u64;
+    };
+    if figures.chance != 0 {
+        return LABELS as u64;
+    }
+    if plan.evicted == 0 {
+        return plan.first;
+    }
+    if plan.evicted != 1 {
+        return LABELS as u64;
+    }
+    if plan.first < (LABELS as u64) {
+        return LABELS as u64;
+    }
+    first_label(words, records_at(limits), figures.templates as usize)
+}
+
+// Removes by the plan; no array is made where one template goes alone.
+fn remove_some(
+    words: &mut [u64],
+    bytes: &[u8],
+    limits: PendingFlowsConfig,
+    figures: HeaderFigures,
+    plan: OfferPlan,
+    clock: u64,
+    apart: u64,
+) -> Removed
+    requires { ⌜ (wellFormed (now words) (length (now bytes)) ≡ true) × (limits ≡ limitsOf (now words)) ⌝ }
+    requires { ⌜ (figures ≡ figuresAt (now words)) × (plan .evicted ≤ heldCount (now words)) ⌝ }
+    ensures { λ r.
+        ⌜ Removes (planTest (limitsOf (now (words .entry))) clock plan) (recordsAt (limitsOf (now (words .entry))))
+        (heldCount (now (words .entry)) + chanceCount (now (words .entry))) (entryCount (now (words .entry))) apart
+        (skipOf (now (words .entry)) plan) (now (words .entry)) (now (words .exit)) r ⌝ }
+{
+    let label = alone_label(words, bytes, limits, figures, plan);
+    if label < (LABELS as u64) {
+        return remove_template(words, bytes, limits, figures, label, apart);
+    }
+    remove_skipped(words, bytes, limits, figures, plan, clock, apart)
 }
 
 // Removes what the plan removes. No entry is looked at where it is certain that nothing goes.

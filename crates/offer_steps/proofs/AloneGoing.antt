@@ -1,0 +1,91 @@
+-- Which template goes alone: where nothing is handed out, the one that goes for room, or the least recent one where one
+-- goes for its bytes and none for room. Assumes nothing.
+use mathlib.Core.Path.{_≡_, refl, sym, ap, _∙_}
+use mathlib.Core.Bool.{true}
+use mathlib.Core.List.{List, [], _∷_}
+use Prim.Native.Nat.{ℕ, _+_, _*_, _≤_, _<_}
+use native.Mathlib.Omega.{arith}
+use lib.ListN.{length, set, take, replicate, length-set, length-replicate}
+use lib.Seq.{set-out}
+use Rattle.config.specs.declared.Ttl.the-variants.{None}
+use Rattle.config.specs.declared.PendingFlowsConfig.{PendingFlowsConfig}
+use Rattle.config.specs.Limits.{recordWords}
+use Rattle.table.specs.declared.TemplateRecord.{TemplateRecord}
+use Rattle.table.specs.Layout.{limitsOf, heldCount, entryCount, chanceCount, recordsAt}
+use Rattle.table.specs.Table.{tableOf, recordsFrom}
+use Rattle.table.specs.Passes.{firstLabel}
+use Rattle.table.specs.WellFormed.{wellFormed}
+use Rattle.table.proofs.Words.{records-none, first-records, records-behind}
+use Rattle.table_entries.proofs.LabelSums.{zeros}
+use Rattle.table_records.specs.Choose.{skipAll, setEach, skipping}
+use Rattle.pending_flows.specs.declared.header.HeaderFigures.{HeaderFigures}
+use Rattle.pending_flows.specs.Header.{figuresAt}
+use Rattle.pending_calls.specs.declared.removal.Removed.{Removed}
+use Rattle.pending_calls.specs.Removal.{everything, Removes}
+use Rattle.pending_calls.proofs.NoneRemoved.{records-inside}
+use Rattle.offer_plan.specs.declared.plan.OfferPlan.{OfferPlan}
+use Rattle.offer_plan.specs.Plan.{planTest, skipOf}
+use Rattle.offer_steps.specs.Alone.{GoesAlone}
+use Rattle.offer_steps.proofs.PlannedRemoval.{whole-planned}
+
+zeros-long : length zeros ≡ 1024
+zeros-long = length-replicate {A = ℕ} 1024 0
+
+-- all bodies of the first record are skipped, where there is one
+first-skipped : (rs : List TemplateRecord) → skipping zeros (take 1 rs) ≡ set zeros (firstLabel rs) skipAll
+unfolding setEach
+first-skipped [] = sym (set-out zeros 1024 skipAll (omega (arith, zeros-long)))
+first-skipped (r ∷ rs) = refl
+
+module _ (w : List ℕ) (plan : OfferPlan) {f : HeaderFigures} {l : PendingFlowsConfig} (figures : f ≡ figuresAt w)
+    (limits : l ≡ limitsOf w) where
+  -- what is no label is not told of
+  pub none-alone : (r : ℕ) → 1024 ≤ r → r < 1024 → GoesAlone w plan r
+  none-alone r past small = absurd (omega arith)
+
+  module _ (ttl : l .ttl ≡ None) (none : f .chance ≡ 0) where
+    no-time : limitsOf w .ttl ≡ None
+    no-time = ap (λ (c : PendingFlowsConfig). c .ttl) (sym limits) ∙ ttl
+
+    none-handed : tableOf w .handed ≡ []
+    none-handed =
+        let chance : chanceCount w ≡ 0 = ap (λ (g : HeaderFigures). g .chance) (sym figures) ∙ none in
+        let p = recordsAt (limitsOf w) in
+        records-behind w p (heldCount w) (chanceCount w)
+        ∙ records-none w (p + recordWords * heldCount w) (chanceCount w) (omega arith)
+
+    pub room-alone : plan .evicted ≡ 0 → plan .first < 1024 → GoesAlone w plan (plan .first)
+    unfolding skipOf setEach
+    room-alone evicts small = record { no-ttl = no-time; skips = rw (none-handed, evicts) }
+
+    pub least-alone : plan .evicted ≡ 1 → 1024 ≤ plan .first → (r p : ℕ) → p ≡ recordsAt l →
+        r ≡ firstLabel (recordsFrom w p (f .templates)) → r < 1024 → GoesAlone w plan r
+    unfolding skipOf setEach
+    least-alone evicts past r p from is small =
+        let held : tableOf w .held ≡ recordsFrom w (recordsAt (limitsOf w)) (heldCount w) =
+        first-records w (recordsAt (limitsOf w)) (heldCount w) (chanceCount w) in
+        let label : r ≡ firstLabel (tableOf w .held) = (rw (from, limits, figures) at is) ∙ ap firstLabel (sym held) in
+        let one : skipping zeros (take 1 (tableOf w .held)) ≡ set zeros r skipAll =
+        first-skipped (tableOf w .held) ∙ ap (λ (j : ℕ). set zeros j skipAll) (sym label) in
+        record {
+          no-ttl = no-time;
+          skips = rw (none-handed, evicts, one)
+              (set-out (set zeros r skipAll) (plan .first) skipAll (omega (arith, zeros-long, length-set zeros r skipAll)));
+        }
+
+-- the held records, where they are looked at
+pub held-inside : (w : List ℕ) (n : ℕ) (ok : wellFormed w n ≡ true) (f : HeaderFigures) (is : f ≡ figuresAt w)
+    (l : PendingFlowsConfig) (limits : l ≡ limitsOf w) (p : ℕ) (from : p ≡ recordsAt l) →
+    p + recordWords * f .templates ≤ length w
+held-inside w n ok f is l limits p from = omega (arith, records-inside w n ok f is l limits p from)
+
+-- the removal of the one template is the planned one
+pub alone-removed : (w b : List ℕ) (ok : wellFormed w (length b) ≡ true) (clock apart label : ℕ) (plan : OfferPlan)
+    {w′ : List ℕ} {r : Removed} → (label < 1024 → GoesAlone w plan label) → label < 1024 →
+    Removes everything (recordsAt (limitsOf w)) (heldCount w + chanceCount w) (entryCount w) apart
+    (set (replicate 1024 0) label skipAll) w w′ r →
+    Removes (planTest (limitsOf w) clock plan) (recordsAt (limitsOf w)) (heldCount w + chanceCount w) (entryCount w)
+    apart (skipOf w plan) w w′ r
+alone-removed w b ok clock apart label plan alone small done =
+    let goes = alone small in
+    whole-planned w b ok clock apart plan refl (goes .no-ttl) (sym (goes .skips)) done
