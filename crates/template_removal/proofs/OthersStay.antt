@@ -17,41 +17,39 @@ use Rattle.table.specs.Passes.{lessAt}
 use Rattle.table.proofs.Labels.{tally-here, tally-later}
 use Rattle.table_entries.specs.declared.StayTest.{StayTest}
 use Rattle.table_entries.specs.Stays.{stays}
-use Rattle.table_entries.specs.Sweep.{swept, othersThan}
+use Rattle.table_entries.specs.Sweep.{swept}
 use Rattle.table_entries.proofs.LabelSums.{zeros}
+use Rattle.entry_sweeps.specs.KeptBy.{keptBy, otherThan}
+use Rattle.entry_sweeps.proofs.KeptBy.{OthersPass, kept-others}
 
 module _ (label : ℕ) where
   -- one entry and others
-  own-first : (e : Entry) (es : List Entry) → label ≡ e .label → othersThan label (e ∷ es) ≡ othersThan label es
-  unfolding othersThan
+  own-first : (e : Entry) (es : List Entry) → label ≡ e .label → keptBy (otherThan label) (e ∷ es) ≡ keptBy (otherThan label) es
+  unfolding keptBy
   own-first e es h = rw (eq-eqb label (e .label) h)
 
   other-first : (e : Entry) (es : List Entry) → (label ≡ e .label → ⊥) →
-      othersThan label (e ∷ es) ≡ e ∷ othersThan label es
-  unfolding othersThan
+      keptBy (otherThan label) (e ∷ es) ≡ e ∷ keptBy (otherThan label) es
+  unfolding keptBy
   other-first e es h = rw (ne-eqb label (e .label) h)
 
-  pub none-of-own : (es : List Entry) → tally label (othersThan label es) ≡ 0
-  unfolding othersThan
+  pub none-of-own : (es : List Entry) → tally label (keptBy (otherThan label) es) ≡ 0
+  unfolding keptBy
   none-of-own [] = refl
   none-of-own (e ∷ es) = by-label (ℕ-discrete label (e .label)) (none-of-own es)
     where
-      by-label : Dec (label ≡ e .label) → tally label (othersThan label es) ≡ 0 →
-          tally label (othersThan label (e ∷ es)) ≡ 0
+      by-label : Dec (label ≡ e .label) → tally label (keptBy (otherThan label) es) ≡ 0 →
+          tally label (keptBy (otherThan label) (e ∷ es)) ≡ 0
       by-label (yes d) ih = ap (tally label) (own-first e es d) ∙ ih
       by-label (no d) ih =
-          ap (tally label) (other-first e es d) ∙ tally-later label e (othersThan label es) d ∙ ih
+          ap (tally label) (other-first e es d) ∙ tally-later label e (keptBy (otherThan label) es) d ∙ ih
 
-  pub all-of-others : (k : ℕ) → (label ≡ k → ⊥) → (es : List Entry) → tally k (othersThan label es) ≡ tally k es
-  unfolding othersThan
-  all-of-others k o [] = refl
-  all-of-others k o (e ∷ es) = by-label (ℕ-discrete label (e .label)) (all-of-others k o es)
-    where
-      by-label : Dec (label ≡ e .label) → tally k (othersThan label es) ≡ tally k es →
-          tally k (othersThan label (e ∷ es)) ≡ tally k (e ∷ es)
-      by-label (yes d) ih =
-          ap (tally k) (own-first e es d) ∙ ih ∙ sym (tally-later k e es (λ z. o (d ∙ sym z)))
-      by-label (no d) ih = ap (tally k) (other-first e es d) ∙ rw ih
+  others-pass : (es : List Entry) → OthersPass (otherThan label) label es
+  others-pass [] = tt
+  others-pass (e ∷ es) = (λ d. rw (ne-eqb label (e .label) d), others-pass es)
+
+  pub all-of-others : (k : ℕ) → (label ≡ k → ⊥) → (es : List Entry) → tally k (keptBy (otherThan label) es) ≡ tally k es
+  all-of-others k o es = kept-others (otherThan label) label k o es (others-pass es)
 
   -- all of the label are skipped, and none of another
   record SkipsOwn (es : List Entry) (skip : List ℕ) : Type 0 where
@@ -60,15 +58,15 @@ module _ (label : ℕ) where
     pub none : (k : ℕ) → k < 1024 → (label ≡ k → ⊥) → getD skip k 0 ≡ 0
 
   swept-others : (q : StayTest) (skip : List ℕ) (es : List Entry) → All (λ e. stays q e ≡ true) es →
-      All (λ e. e .label < 1024) es → SkipsOwn es skip → swept q skip es ≡ othersThan label es
-  unfolding swept othersThan
+      All (λ e. e .label < 1024) es → SkipsOwn es skip → swept q skip es ≡ keptBy (otherThan label) es
+  unfolding swept keptBy
   swept-others q skip [] s small h = refl
   swept-others q skip (e ∷ es) s small h =
       by-label (ℕ-discrete label (e .label)) (λ skip′. swept-others q skip′ es (s .1) (small .1))
     where
       by-label : Dec (label ≡ e .label) →
-          ((skip′ : List ℕ) → SkipsOwn es skip′ → swept q skip′ es ≡ othersThan label es) →
-          swept q skip (e ∷ es) ≡ othersThan label (e ∷ es)
+          ((skip′ : List ℕ) → SkipsOwn es skip′ → swept q skip′ es ≡ keptBy (otherThan label) es) →
+          swept q skip (e ∷ es) ≡ keptBy (otherThan label) (e ∷ es)
       by-label (yes d) later =
           let some : 0 < getD skip label 0 = omega (arith, h .enough, tally-here label e es d) in
           let here : getD (lessAt skip label) label 0 ≡ getD skip label 0 - 1 =
@@ -95,7 +93,7 @@ module _ (label : ℕ) where
       tally-later label e es (λ d. omega (arith, small .0)) ∙ none-past es (small .1) past
 
   pub label-swept : (q : StayTest) (n : ℕ) (es : List Entry) → All (λ e. stays q e ≡ true) es →
-      All (λ e. e .label < 1024) es → tally label es ≤ n → swept q (set zeros label n) es ≡ othersThan label es
+      All (λ e. e .label < 1024) es → tally label es ≤ n → swept q (set zeros label n) es ≡ keptBy (otherThan label) es
   label-swept q n es s small most =
       swept-others q (set zeros label n) es s small (record {
         long = length-set zeros label n ∙ zeros-long;

@@ -24,7 +24,8 @@ use Rattle.table.proofs.Facts.{LegalWords, words-say}
 use Rattle.table.proofs.Labels.{tally-most, absent-says, absent-holds, absent-tally}
 use Rattle.table_entries.specs.declared.sweeps.Kept.{Kept}
 use Rattle.table_entries.specs.Sums.{lensWord}
-use Rattle.table_entries.specs.Sweep.{swept, Sweeps, othersThan, SweepsLabel}
+use Rattle.table_entries.specs.Sweep.{swept, Sweeps}
+use Rattle.entry_sweeps.specs.KeptBy.{keptBy, otherThan, SweepsBy}
 use Rattle.table_entries.proofs.LabelSums.{length-summed, zeros}
 use Rattle.table_entries.proofs.Swept.{length-swept, all-swept}
 use Rattle.table_records.specs.Choose.{skipAll}
@@ -76,7 +77,7 @@ module _ (w : List ℕ) (n : ℕ) (ok : wellFormed w n ≡ true) (label apart : 
   -- ---- the entries that stay
 
   abbrev stay : List Entry
-  stay = othersThan label es
+  stay = keptBy (otherThan label) es
 
   abbrev skip : List ℕ
   skip = set zeros label skipAll
@@ -181,7 +182,7 @@ module _ (w : List ℕ) (n : ℕ) (ok : wellFormed w n ≡ true) (label apart : 
 
   -- ---- the steps
 
-  module _ {w₁ w₂ w₃ : List ℕ} {left : Kept} {a b : Taken} (s : SweepsLabel label (entryCount w) w w₁ left)
+  module _ {w₁ w₂ w₃ : List ℕ} {left : Kept} {a b : Taken} (s : SweepsBy (otherThan label) (entryCount w) w w₁ left)
       (t : TakesLabel label p k w₁ w₂ a) (u : TakesLabel apart p (a .records) w₂ w₃ b) where
     same-records : recordsFrom w₁ p k ≡ rs
     same-records =
@@ -279,7 +280,7 @@ module _ (w : List ℕ) (n : ℕ) (ok : wellFormed w n ≡ true) (label apart : 
 module _ (w : List ℕ) (n : ℕ) (ok : wellFormed w n ≡ true) (label apart : ℕ) {f : HeaderFigures}
     {l : PendingFlowsConfig} {p : ℕ} (figures : f ≡ figuresAt w) (limits : l ≡ limitsOf w) (from : p ≡ recordsAt l)
     {w₁ w₂ w₃ : List ℕ} {left : Kept} {a b : Taken} where
-  pub template-removed : SweepsLabel label (f .entries) w w₁ left →
+  pub template-removed : SweepsBy (otherThan label) (f .entries) w w₁ left →
       TakesLabel label p (f .templates + f .chance) w₁ w₂ a → TakesLabel apart p (a .records) w₂ w₃ b →
       length w₃ ≡ length w →
       Removes everything (recordsAt (limitsOf w)) (heldCount w + chanceCount w) (entryCount w) apart

@@ -11,10 +11,10 @@ ghost use Rattle.pending_flows.specs.Header.{figuresAt};
 ghost use Rattle.pending_calls.specs.Removal.{everything, Removes};
 ghost use Rattle.template_removal.specs.Taking.{TakesLabel};
 use config::PendingFlowsConfig;
+use entry_sweeps::sweep_label;
 use pending_calls::Removed;
 use pending_flows::HeaderFigures;
 use table::records_at;
-use table_entries::sweep_label;
 use table_promotion::place_of;
 use table_promotion::take_off;
 
