@@ -87,7 +87,7 @@ module _ (label : ℕ) where
           })))
 
   -- what is no label has no entries
-  none-past : (es : List Entry) → All (λ e. e .label < 1024) es → 1024 ≤ label → tally label es ≡ 0
+  pub none-past : (es : List Entry) → All (λ e. e .label < 1024) es → 1024 ≤ label → tally label es ≡ 0
   none-past [] small past = refl
   none-past (e ∷ es) small past =
       tally-later label e es (λ d. omega (arith, small .0)) ∙ none-past es (small .1) past

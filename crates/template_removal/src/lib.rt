@@ -1,4 +1,6 @@
-// Removing one template whole: its entries and its record, without an array (pending_flows.rs).
+// Removing one template whole, or its expired bodies, without an array (pending_flows.rs).
+mod expired;
+
 ghost use mathlib.Core.Path.{_≡_};
 ghost use mathlib.Core.Bool.{true};
 ghost use Prim.Native.Nat.{_+_, _*_, _≤_};
@@ -12,6 +14,7 @@ ghost use Rattle.pending_calls.specs.Removal.{everything, Removes};
 ghost use Rattle.template_removal.specs.Taking.{TakesLabel};
 use config::PendingFlowsConfig;
 use entry_sweeps::sweep_label;
+pub use expired::remove_expired_of;
 use pending_calls::Removed;
 use pending_flows::HeaderFigures;
 use table::records_at;
