@@ -9,7 +9,7 @@ use Rattle.config.specs.Limits.{recordWords}
 use Rattle.table.specs.declared.TemplateRecord.{TemplateRecord}
 use Rattle.table.specs.Table.{recordsFrom}
 use Rattle.table_records.specs.Add.{Adds}
-use Rattle.table_records.specs.Choose.{skipping}
+use Rattle.table_records.specs.Choose.{setEach, skipping}
 use Rattle.pending_flows.specs.declared.header.HeaderFigures.{HeaderFigures}
 use Rattle.pending_calls.specs.declared.removal.Removed.{Removed}
 use Rattle.pending_calls.specs.Removal.{unexpired, Removes}
@@ -24,6 +24,12 @@ module _ (p k : ℕ) (t : TemplateRecord) (w : List ℕ) where
 
   pub some-handed : {w′ : List ℕ} → (t .count ≡ 0 → ⊥) → Adds p k t w w′ → HandsOut p k t w w′ 1
   some-handed n a = record { nothing = λ e. absurd (n e); some = λ _. (refl, a) }
+
+-- where nothing is handed out, nothing is skipped
+pub nothing-skipped : (p : ℕ) (f : HeaderFigures) (w : List ℕ) → f .chance ≡ 0 →
+    zeros ≡ skipping zeros (recordsFrom w (p + recordWords * f .templates) (f .chance))
+unfolding setEach recordsFrom
+nothing-skipped p f w none = rw none
 
 pub taken-out : (ttl : Ttl) (clock label p : ℕ) (f : HeaderFigures) (w w′ : List ℕ) (r : Removed) {skip : List ℕ} →
     skip ≡ skipping zeros (recordsFrom w (p + recordWords * f .templates) (f .chance)) →

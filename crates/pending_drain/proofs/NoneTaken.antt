@@ -21,7 +21,6 @@ use Rattle.table.proofs.Facts.{LegalWords, words-say}
 use Rattle.table.proofs.FoundLabels.{labelFor}
 use Rattle.table_entries.specs.declared.StayTest.{StayTest}
 use Rattle.table_entries.specs.Sweep.{swept}
-use Rattle.table_records.specs.Choose.{setEach, skipping}
 use Rattle.pending_flows.specs.declared.header.HeaderFigures.{HeaderFigures}
 use Rattle.pending_flows.specs.Header.{figuresAt}
 use Rattle.pending_flows.proofs.Questions.{first-records}
@@ -32,7 +31,7 @@ use Rattle.pending_calls.specs.Removal.{everything, unexpired, Removes}
 use Rattle.pending_calls.proofs.NoneRemoved.{removes-alike, entries-short, all-swept-stay}
 use Rattle.pending_drain.specs.Handing.{zeros, NothingGoes, TakesOut}
 use Rattle.pending_drain.proofs.AsRead.{as-read}
-use Rattle.pending_drain.proofs.Handing.{taken-out}
+use Rattle.pending_drain.proofs.Handing.{nothing-skipped, taken-out}
 
 -- ---- whether nothing goes
 
@@ -102,10 +101,6 @@ module _ (w b : List ℕ) (i : ℕ) (ok : wellFormed w (length b) ≡ true) {l :
         (none-skipped q es labels-small (all-stay q es refl
         (none-expired (l .ttl) clock a es (rw rows at all-live)) (entries-short w (length b) ok)))
 
-    nothing-skipped : zeros ≡ skipping zeros (recordsFrom w (p + recordWords * f .templates) (f .chance))
-    unfolding setEach recordsFrom
-    nothing-skipped = rw (none .hands-none)
-
     pub none-taken : {w′ : List ℕ} {r : Removed} →
         Removes everything (recordsAt (limitsOf w)) (heldCount w + chanceCount w) (entryCount w) a zeros w w′ r →
         TakesOut (l .ttl) clock a p f w w′ r
@@ -113,7 +108,7 @@ module _ (w b : List ℕ) (i : ℕ) (ok : wellFormed w (length b) ≡ true) {l :
         let whole : swept everything zeros (entriesFrom w entriesAt (f .entries))
         ≡ entriesFrom w entriesAt (f .entries) =
         rw figures (all-swept-stay w (length b) ok) in
-        taken-out (l .ttl) clock a p f w w′ r nothing-skipped
+        taken-out (l .ttl) clock a p f w w′ r (nothing-skipped p f w (none .hands-none))
         (removes-alike (whole ∙ sym kept-whole)
         (as-read w limits figures from
         (λ l f p. Removes everything p (f .templates + f .chance) (f .entries) a zeros w w′ r) done))

@@ -23,7 +23,7 @@ use Rattle.pending_calls.specs.declared.removal.Removed.{Removed}
 use Rattle.pending_calls.specs.Removal.{unexpired, SkipsWhole, Removes}
 use Rattle.pending_drain.specs.Handing.{zeros, TakesOut}
 use Rattle.pending_drain.proofs.AsRead.{as-read, as-labelled}
-use Rattle.pending_drain.proofs.Handing.{taken-out}
+use Rattle.pending_drain.proofs.Handing.{nothing-skipped, taken-out}
 use Rattle.pending_drain.proofs.LegalRows.{bodies-within, bodies-short, entries-few, handed-single}
 use Rattle.pending_drain.proofs.DrainedRows as Rows
 
@@ -78,3 +78,14 @@ module _ (w b : List ℕ) (i : ℕ) (ok : wellFormed w (length b) ≡ true) {l :
       taken-out (l .ttl) clock a p f w w′ r skips
       (as-read w limits figures from
       (λ m f p. Removes (unexpired (l .ttl) clock a) p (f .templates + f .chance) (f .entries) a skip w w′ r) done)
+
+-- where nothing is handed out, only expired bodies of the label go
+module _ (w : List ℕ) {l : PendingFlowsConfig} {f : HeaderFigures} {p : ℕ} (limits : l ≡ limitsOf w)
+    (figures : f ≡ figuresAt w) (from : p ≡ recordsAt l) (none : f .chance ≡ 0) where
+  pub expired-taken : (clock a : ℕ) {w′ : List ℕ} {r : Removed} →
+      Removes (unexpired (l .ttl) clock a) (recordsAt (limitsOf w)) (heldCount w + chanceCount w) (entryCount w) a zeros
+      w w′ r → TakesOut (l .ttl) clock a p f w w′ r
+  expired-taken clock a {w′} {r} done =
+      taken-out (l .ttl) clock a p f w w′ r (nothing-skipped p f w none)
+      (as-read w limits figures from
+      (λ m f p. Removes (unexpired (l .ttl) clock a) p (f .templates + f .chance) (f .entries) a zeros w w′ r) done)

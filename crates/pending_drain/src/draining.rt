@@ -34,6 +34,7 @@ use table::live_figures;
 use table::records_at;
 use table_promotion::add_record;
 use table_records::skip_records;
+use template_removal::remove_expired_of;
 
 // What a drain answers.
 pub enum DrainAnswer {
@@ -95,6 +96,9 @@ fn take_label(
 {
     if nothing_goes(words, from, figures, id, live) {
         return remove_none(words, bytes, limits, figures, label);
+    }
+    if figures.chance == 0 {
+        return remove_expired_of(words, bytes, limits, figures, clock, label);
     }
     let handed = from + RECORD_WORDS * (figures.templates as usize);
     let mut skip = [0u32; LABELS];

@@ -5,7 +5,7 @@ use Rattle.config.specs.Limits.{recordWords}
 use Rattle.pending_drain.proofs.AsRead.{held-room}
 use Rattle.pending_calls.proofs.NoneRemoved.{records-inside}
 use Rattle.pending_drain.proofs.NoneTaken.{none-taken}
-use Rattle.pending_drain.proofs.SomeTaken.{skips-whole, live-stay, some-taken}
+use Rattle.pending_drain.proofs.SomeTaken.{skips-whole, live-stay, some-taken, expired-taken}
 use Rattle.pending_drain.proofs.draining.take_label.Statement.{statement}
 use Rattle.pending_drain.proofs.draining.take_label.Tie as tie
 
@@ -22,6 +22,15 @@ same-length c = search needs
 returns : tie.Need-returns
 returns c = search (none-taken, needs)
 
+remove-expired-of-requires : tie.Need-remove-expired-of-requires
+remove-expired-of-requires c κs = search needs
+
+same-length-2 : tie.Need-same-length-2
+same-length-2 c = search needs
+
+returns-2 : tie.Need-returns-2
+returns-2 c = search (expired-taken, needs)
+
 -- the records lie within the words
 inside : (s : tie.Start) → s .args .from + recordWords * (s .args .figures .templates + s .args .figures .chance)
     ≤ length (s .args .words .now)
@@ -29,8 +38,8 @@ inside s =
     records-inside _ (length (s .args .bytes .now)) (s .pre .0 .0) _ (s .pre .1 .0 .0) _ (s .pre .0 .1) _
     (s .pre .1 .0 .1)
 
-abbrev start : tie.Else1 → tie.Start
-start c = c .before .before .before .before .before
+abbrev start : tie.Else2 → tie.Start
+start c = c .before .before .before .before .before .before .before
 
 mul-handed : tie.Need-mul-handed
 mul-handed c = search (inside (start c), needs)
@@ -61,11 +70,11 @@ remove-expired-requires c κs =
       ),
     )
 
-same-length-2 : tie.Need-same-length-2
-same-length-2 c = search needs
+same-length-3 : tie.Need-same-length-3
+same-length-3 c = search needs
 
-returns-2 : tie.Need-returns-2
-returns-2 c = search (some-taken, needs)
+returns-3 : tie.Need-returns-3
+returns-3 c = search (some-taken, needs)
 
 pub take-label-spec : {M : Type 1} → statement M
 take-label-spec =
@@ -75,9 +84,12 @@ take-label-spec =
     remove-none-requires
     same-length
     returns
+    remove-expired-of-requires
+    same-length-2
+    returns-2
     mul-handed
     add-handed
     skip-records-requires
     remove-expired-requires
-    same-length-2
-    returns-2)
+    same-length-3
+    returns-3)
