@@ -1,9 +1,7 @@
-// The steps of an offer (pending_flows.rs): removing what is planned, room for the body and the body in it, the header.
-mod removing;
+// The steps of an offer (pending_flows.rs): room for the body and the body in it, the header.
 mod settling;
 mod storing;
 
-pub use removing::remove_planned;
 pub use settling::count_drop;
 pub use settling::held_bodies;
 pub use settling::settle;

@@ -20,10 +20,10 @@ use offer_steps::add_body;
 use offer_steps::choose_label;
 use offer_steps::count_drop;
 use offer_steps::held_bodies;
-use offer_steps::remove_planned;
 use offer_steps::settle;
 use pending_flows::HeaderFigures;
 use pending_flows::figures_at;
+use planned_removal::remove_planned;
 use table::LABELS;
 use table::limits_at;
 

@@ -1,11 +1,13 @@
--- The plan of an offer by which one template goes, whole, and nothing else.
+-- The plans of an offer by which one template goes, whole, and nothing else, or expired bodies of one.
 use mathlib.Core.Path.{_≡_}
+use mathlib.Core.Bool.{false}
 use mathlib.Core.List.{List}
-use Prim.Native.Nat.{ℕ}
+use Prim.Native.Nat.{ℕ, _≤_}
 use lib.ListN.{set, replicate}
 use Rattle.config.specs.declared.Ttl.the-variants.{None}
 use Rattle.table.specs.Layout.{limitsOf}
 use Rattle.table_records.specs.Choose.{skipAll}
+use Rattle.pending_flows.specs.declared.header.HeaderFigures.{HeaderFigures}
 use Rattle.offer_plan.specs.declared.plan.OfferPlan.{OfferPlan}
 use Rattle.offer_plan.specs.Plan.{skipOf}
 
@@ -13,3 +15,11 @@ use Rattle.offer_plan.specs.Plan.{skipOf}
 pub record GoesAlone (w : List ℕ) (plan : OfferPlan) (label : ℕ) : Type 0 where
   pub no-ttl : limitsOf w .ttl ≡ None
   pub skips : skipOf w plan ≡ set (replicate 1024 0) label skipAll
+
+-- nothing is handed out, no template is evicted, and bodies of one label alone may be expired
+pub record OnlyExpired (f : HeaderFigures) (plan : OfferPlan) (label : ℕ) : Type 0 where
+  pub hands-none : f .chance ≡ 0
+  pub evicts-none : plan .evicted ≡ 0
+  pub none-for-room : 1024 ≤ plan .first
+  pub one-id : plan .all ≡ false
+  pub own : plan .label ≡ label

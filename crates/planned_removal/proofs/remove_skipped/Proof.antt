@@ -1,9 +1,9 @@
 use borrow.Author.Needs.{needs}
 use Rattle.pending_flows.proofs.Questions.{bodies-few}
 use Rattle.pending_calls.proofs.NoneRemoved.{records-few, records-fit, entries-below, records-inside}
-use Rattle.offer_steps.proofs.PlannedRemoval.{planned-long, removed-planned, planned-whole, whole-planned}
-use Rattle.offer_steps.proofs.removing.remove_skipped.Statement.{statement}
-use Rattle.offer_steps.proofs.removing.remove_skipped.Tie as tie
+use Rattle.planned_removal.proofs.PlannedRemoval.{planned-long, removed-planned, planned-whole, whole-planned}
+use Rattle.planned_removal.proofs.remove_skipped.Statement.{statement}
+use Rattle.planned_removal.proofs.remove_skipped.Tie as tie
 
 skip-planned-requires : tie.Need-skip-planned-requires
 skip-planned-requires c κs = search needs

@@ -1,8 +1,8 @@
 use borrow.Author.Needs.{needs}
 use Rattle.pending_flows.proofs.Questions.{bodies-few}
-use Rattle.offer_steps.proofs.AloneGoing.{none-alone, room-alone, least-alone, held-inside}
-use Rattle.offer_steps.proofs.removing.alone_label.Statement.{statement}
-use Rattle.offer_steps.proofs.removing.alone_label.Tie as tie
+use Rattle.planned_removal.proofs.AloneGoing.{none-alone, room-alone, least-alone, held-inside}
+use Rattle.planned_removal.proofs.alone_label.Statement.{statement}
+use Rattle.planned_removal.proofs.alone_label.Tie as tie
 
 enum-told : tie.Need-enum-told
 enum-told c = search needs

@@ -1,4 +1,4 @@
-// Removing what the plan of an offer removes.
+// Removing what the plan of an offer removes (pending_flows.rs).
 ghost use mathlib.Core.Path.{_≡_};
 ghost use mathlib.Core.Bool.{true};
 ghost use Prim.Native.Nat.{_+_, _≤_, _<_};
@@ -8,7 +8,7 @@ ghost use Rattle.table.specs.WellFormed.{wellFormed};
 ghost use Rattle.pending_flows.specs.Header.{figuresAt};
 ghost use Rattle.pending_calls.specs.Removal.{Removes};
 ghost use Rattle.offer_plan.specs.Plan.{planTest, skipOf, KeepsAll};
-ghost use Rattle.offer_steps.specs.Alone.{GoesAlone};
+ghost use Rattle.planned_removal.specs.Alone.{GoesAlone, OnlyExpired};
 use config::PendingFlowsConfig;
 use config::Ttl;
 use offer_plan::OfferPlan;
@@ -22,6 +22,7 @@ use table::LABELS;
 use table::first_label;
 use table::records_at;
 use table_entries::StayTest;
+use template_removal::remove_expired_of;
 use template_removal::remove_template;
 
 // The test by which bodies stay.
@@ -106,7 +107,26 @@ fn alone_label(
     first_label(words, records_at(limits), figures.templates as usize)
 }
 
-// Removes by the plan; no array is made where one template goes alone.
+// Whether nothing but expired bodies of the id may go, and its record is the one that goes.
+fn only_expired(figures: HeaderFigures, plan: OfferPlan, apart: u64) -> bool
+    ensures { λ r. ⌜ (r ≡ true → OnlyExpired figures plan apart) ⌝ }
+{
+    if figures.chance != 0 {
+        return false;
+    }
+    if plan.evicted != 0 {
+        return false;
+    }
+    if plan.first < (LABELS as u64) {
+        return false;
+    }
+    if plan.all {
+        return false;
+    }
+    plan.label == apart
+}
+
+// Removes by the plan; no array is made where one template goes alone, or expired bodies of the id alone.
 fn remove_some(
     words: &mut [u64],
     bytes: &[u8],
@@ -126,6 +146,9 @@ fn remove_some(
     let label = alone_label(words, bytes, limits, figures, plan);
     if label < (LABELS as u64) {
         return remove_template(words, bytes, limits, figures, label, apart);
+    }
+    if only_expired(figures, plan, apart) {
+        return remove_expired_of(words, bytes, limits, figures, clock, apart);
     }
     remove_skipped(words, bytes, limits, figures, plan, clock, apart)
 }

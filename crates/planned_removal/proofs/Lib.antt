@@ -1,0 +1,2 @@
+pub mod PlannedRemoval
+pub mod AloneGoing
