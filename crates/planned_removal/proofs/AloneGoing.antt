@@ -106,11 +106,11 @@ module _ (f : HeaderFigures) (plan : OfferPlan) (apart : ℕ) where
   pub not-certain : (false ≡ true → OnlyExpired f plan apart)
   not-certain e = absurd (false≢true e)
 
-  pub certain : f .chance ≡ 0 → plan .evicted ≡ 0 → 1024 ≤ plan .first → plan .all ≡ false →
+  pub certain : f .chance ≤ 0 → plan .evicted ≤ 0 → 1024 ≤ plan .first → plan .all ≡ false →
       (eqb (plan .label) apart ≡ true → OnlyExpired f plan apart)
   certain chance evicted first all own = record {
-    hands-none = chance;
-    evicts-none = evicted;
+    hands-none = omega arith;
+    evicts-none = omega arith;
     none-for-room = first;
     one-id = all;
     own = eqb-true (plan .label) apart own;

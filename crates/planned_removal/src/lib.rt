@@ -111,13 +111,14 @@ fn alone_label(
 fn only_expired(figures: HeaderFigures, plan: OfferPlan, apart: u64) -> bool
     ensures { λ r. ⌜ (r ≡ true → OnlyExpired figures plan apart) ⌝ }
 {
-    if figures.chance != 0 {
+    if 0 < figures.chance {
         return false;
     }
-    if plan.evicted != 0 {
+    if 0 < plan.evicted {
         return false;
     }
-    if plan.first < (LABELS as u64) {
+    let none = LABELS as u64;
+    if plan.first < none {
         return false;
     }
     if plan.all {
