@@ -16,7 +16,8 @@ pub fn reserve(budget: &mut [u64; 7], values: u64, payload_bytes: u64, excess: &
         (now (budget .entry)) (now (budget .exit)) ⌝ }
 {
     let b = read_budget(budget);
-    let reserved = b.reserved(
+    let reserved = output_reserve::reserved(
+        b,
         FieldValues(values as usize),
         PayloadBytes(payload_bytes as usize),
     );
@@ -31,7 +32,8 @@ pub fn rollback(budget: &mut [u64; 7], values: u64, payload_bytes: u64) -> u32
     ensures { λ r. ⌜ RollsBackIn values «payload_bytes» r (now (budget .entry)) (now (budget .exit)) ⌝ }
 {
     let b = read_budget(budget);
-    let rolled = b.rolled_back(
+    let rolled = output_rollback::rolled_back(
+        b,
         FieldValues(values as usize),
         PayloadBytes(payload_bytes as usize),
     );

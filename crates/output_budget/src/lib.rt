@@ -2,10 +2,9 @@
 use output_preflight::FieldValues;
 use output_preflight::PayloadBytes;
 ghost use mathlib.Core.Path.{_≡_};
-ghost use Prim.Native.Nat.{_+_, _-_};
-ghost use lib.Dec.{ltb};
-ghost use Rattle.output_budget.specs.Budget.{opened, useOf, remainingOf, isRecorded, Takes, Reserves, RollsBack};
-ghost use Rattle.output_budget.specs.Budget.{withUse, grown, SumsWithin, attemptedSum, firstExcess, recorded};
+ghost use Prim.Native.Nat.{_-_};
+ghost use Rattle.output_budget.specs.Budget.{opened, useOf, remainingOf, isRecorded, Takes};
+ghost use Rattle.output_budget.specs.Budget.{withUse, grown, SumsWithin};
 
 // Which limit an excess is of.
 pub enum DecodedOutputLimit {
@@ -71,9 +70,6 @@ pub struct RollbackOutcome {
     pub budget: DecodedOutputBudget,
 }
 
-// The largest count, 2^64 - 1.
-const LARGEST: usize = 18446744073709551615;
-
 // What is left of a limit, or 0 where more than the limit is in use.
 fn left(max: usize, used: usize) -> usize
     ensures { λ r. ⌜ r ≡ max - used ⌝ }
@@ -82,39 +78,6 @@ fn left(max: usize, used: usize) -> usize
         return 0;
     }
     max - used
-}
-
-// Whether the sum is above the limit, also where it is above 2^64 - 1.
-fn passes(max: usize, used: usize, more: usize) -> bool
-    ensures { λ r. ⌜ r ≡ ltb max (used + more) ⌝ }
-{
-    if max < used {
-        return true;
-    }
-    if max - used < more {
-        return true;
-    }
-    false
-}
-
-// The sum, or the largest count where the sum is above it.
-fn attempted(used: usize, more: usize) -> usize
-    ensures { λ r. ⌜ r ≡ attemptedSum used more ⌝ }
-{
-    if more <= LARGEST - used {
-        return used + more;
-    }
-    LARGEST
-}
-
-// What is recorded once `excess` happens: the first one stays.
-fn first(kept: Exceeded, excess: OutputBudgetExceeded) -> Exceeded
-    ensures { λ r. ⌜ r ≡ firstExcess kept excess ⌝ }
-{
-    match kept {
-        Exceeded::None => Exceeded::Recorded(excess),
-        Exceeded::Recorded(_) => kept,
-    }
 }
 
 impl DecodedOutputBudget {
@@ -196,61 +159,7 @@ impl DecodedOutputBudget {
         TakeOutcome { answer, budget }
     }
 
-    // Both counts are reserved, or none of them: values are tested before payload.
-    pub fn reserved(self, values: FieldValues, payload: PayloadBytes) -> ReserveOutcome
-        ensures { λ r. ⌜ Reserves self values payload (r .answer) (r .budget) ⌝ }
-    {
-        let max_values = self.max_values.0;
-        let used_values = self.used_values.0;
-        let max_payload_bytes = self.max_payload_bytes.0;
-        let used_payload_bytes = self.used_payload_bytes.0;
-        if passes(max_values, used_values, values.0) {
-            return self.exceed(OutputBudgetExceeded {
-                limit: DecodedOutputLimit::FieldValues,
-                configured: max_values,
-                attempted: attempted(used_values, values.0),
-            });
-        }
-        if passes(max_payload_bytes, used_payload_bytes, payload.0) {
-            return self.exceed(OutputBudgetExceeded {
-                limit: DecodedOutputLimit::FieldPayloadBytes,
-                configured: max_payload_bytes,
-                attempted: attempted(used_payload_bytes, payload.0),
-            });
-        }
-        let budget = self.grow(values, payload);
-        ReserveOutcome {
-            answer: ReserveAnswer::Reserved,
-            budget,
-        }
-    }
-
-    // Back to counts that are not above those in use; what was recorded goes.
-    pub fn rolled_back(self, values: FieldValues, payload: PayloadBytes) -> RollbackOutcome
-        ensures { λ r. ⌜ RollsBack self values payload (r .answer) (r .budget) ⌝ }
-    {
-        let used_values = self.used_values.0;
-        let used_payload_bytes = self.used_payload_bytes.0;
-        if used_values < values.0 {
-            return RollbackOutcome {
-                answer: RollbackAnswer::AboveUse,
-                budget: self,
-            };
-        }
-        if used_payload_bytes < payload.0 {
-            return RollbackOutcome {
-                answer: RollbackAnswer::AboveUse,
-                budget: self,
-            };
-        }
-        let budget = self.with_use(values, payload, Exceeded::None);
-        RollbackOutcome {
-            answer: RollbackAnswer::RolledBack,
-            budget,
-        }
-    }
-
-    // The use grown by two counts, whose sums the caller has tested: here, or in `output_pending`.
+    // The use grown by two counts, whose sums the caller has tested: `output_reserve` or `output_pending`.
     pub fn grow(self, values: FieldValues, payload: PayloadBytes) -> Self
         requires { ⌜ SumsWithin self values payload ⌝ }
         ensures { λ r. ⌜ r ≡ grown self values payload ⌝ }
@@ -261,21 +170,8 @@ impl DecodedOutputBudget {
         self.with_use(used_values, used_payload_bytes, kept)
     }
 
-    // A refused reservation: the use stays as it was.
-    fn exceed(self, excess: OutputBudgetExceeded) -> ReserveOutcome
-        ensures { λ r. ⌜ r ≡ record { answer = ReserveAnswer.Exceeded excess; budget = recorded self excess } ⌝ }
-    {
-        let kept = self.exceeded;
-        let exceeded = first(kept, excess);
-        let budget = self.with_use(self.used_values, self.used_payload_bytes, exceeded);
-        ReserveOutcome {
-            answer: ReserveAnswer::Exceeded(excess),
-            budget,
-        }
-    }
-
     // The same limits, with this use and this record.
-    fn with_use(
+    pub fn with_use(
         self,
         used_values: FieldValues,
         used_payload_bytes: PayloadBytes,

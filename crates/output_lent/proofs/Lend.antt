@@ -1,5 +1,5 @@
 -- A budget that is lent to a call and changed there, for every such function:
--- `let out = b.f(x, y); *b = out.budget; out.answer`.
+-- `let out = f(*b, x, y); *b = out.budget; out.answer`.
 --     thin     the function's MIR, over the name of f and the types
 --     lent     where f by value promises P of the budget, x, y, its answer and its budget, the function promises P
 --              of the budget at entry, x, y, its answer and the budget at exit

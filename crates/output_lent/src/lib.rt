@@ -11,10 +11,12 @@ use output_pending::materialized;
 use output_preflight::FieldValues;
 use output_preflight::PayloadBytes;
 use output_preflight::PreflightAnswer;
+use output_reserve::reserved;
+use output_rollback::rolled_back;
 ghost use Rattle.output_budget.specs.Budget.{Reserves, RollsBack};
 ghost use Rattle.output_pending.specs.Pending.{Materializes};
 
-// `DecodedOutputBudget::reserved` on the budget that is lent.
+// `output_reserve::reserved` on the budget that is lent.
 pub fn reserve(
     b: &mut DecodedOutputBudget,
     values: FieldValues,
@@ -22,12 +24,12 @@ pub fn reserve(
 ) -> ReserveAnswer
     ensures { λ r. ⌜ Reserves (now (b .entry)) values payload r (now (b .exit)) ⌝ }
 {
-    let out = b.reserved(values, payload);
+    let out = reserved(*b, values, payload);
     *b = out.budget;
     out.answer
 }
 
-// `DecodedOutputBudget::rolled_back` on the budget that is lent.
+// `output_rollback::rolled_back` on the budget that is lent.
 pub fn rollback(
     b: &mut DecodedOutputBudget,
     values: FieldValues,
@@ -35,7 +37,7 @@ pub fn rollback(
 ) -> RollbackAnswer
     ensures { λ r. ⌜ RollsBack (now (b .entry)) values payload r (now (b .exit)) ⌝ }
 {
-    let out = b.rolled_back(values, payload);
+    let out = rolled_back(*b, values, payload);
     *b = out.budget;
     out.answer
 }

@@ -23,6 +23,8 @@ use output_preflight::PayloadBytes;
 use output_preflight::PendingOutputPreflight;
 use output_preflight::PreflightAnswer;
 use output_preflight::Refusal;
+use output_reserve::reserved;
+use output_rollback::rolled_back;
 ghost use mathlib.Core.Path.{_≡_};
 ghost use Rattle.output_budget.specs.Budget.{limitOf};
 
@@ -222,7 +224,7 @@ fn both(by_value: Answered, by_loan: Answered) -> Answered {
 fn run_reserve(b: DecodedOutputBudget, values: u64, payload: u64) -> Answered {
     let v = FieldValues(values as usize);
     let p = PayloadBytes(payload as usize);
-    let by_value = b.reserved(v, p);
+    let by_value = reserved(b, v, p);
     let by_loan = reserve_by_loan(b, v, p);
     let a = by_value.answer;
     let after = by_value.budget;
@@ -234,7 +236,7 @@ fn run_reserve(b: DecodedOutputBudget, values: u64, payload: u64) -> Answered {
 fn run_rollback(b: DecodedOutputBudget, values: u64, payload: u64) -> Answered {
     let v = FieldValues(values as usize);
     let p = PayloadBytes(payload as usize);
-    let by_value = b.rolled_back(v, p);
+    let by_value = rolled_back(b, v, p);
     let by_loan = rollback_by_loan(b, v, p);
     let a = by_value.answer;
     let after = by_value.budget;

@@ -1,7 +1,7 @@
 use borrow.Author.Needs.{needs}
-use Rattle.output_budget.proofs.Rollbacks.{values-above, payload-above, not-above}
-use Rattle.output_budget.proofs.DecodedOutputBudget.rolled_back.Statement.{statement}
-use Rattle.output_budget.proofs.DecodedOutputBudget.rolled_back.Tie as tie
+use Rattle.output_rollback.proofs.Rollbacks.{values-above, payload-above, not-above}
+use Rattle.output_rollback.proofs.rolled_back.Statement.{statement}
+use Rattle.output_rollback.proofs.rolled_back.Tie as tie
 
 returns : tie.Need-returns
 returns c = search (values-above, needs)

@@ -1,6 +1,6 @@
 use borrow.Author.Needs.{needs}
-use Rattle.output_budget.proofs.first.Statement.{statement}
-use Rattle.output_budget.proofs.first.Tie as tie
+use Rattle.output_reserve.proofs.first.Statement.{statement}
+use Rattle.output_reserve.proofs.first.Tie as tie
 
 enum-told : tie.Need-enum-told
 enum-told c = search needs

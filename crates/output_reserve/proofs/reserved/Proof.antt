@@ -1,7 +1,7 @@
 use borrow.Author.Needs.{needs}
-use Rattle.output_budget.proofs.Reservations.{values-pass, payload-pass, none-passes, sums-within}
-use Rattle.output_budget.proofs.DecodedOutputBudget.reserved.Statement.{statement}
-use Rattle.output_budget.proofs.DecodedOutputBudget.reserved.Tie as tie
+use Rattle.output_reserve.proofs.Reservations.{values-pass, payload-pass, none-passes, sums-within}
+use Rattle.output_reserve.proofs.reserved.Statement.{statement}
+use Rattle.output_reserve.proofs.reserved.Tie as tie
 
 passes-requires : tie.Need-passes-requires
 passes-requires c κs = search needs

@@ -1,4 +1,2 @@
-pub mod Sums
-pub mod Reservations
 pub mod Rollbacks
 pub mod Checkpoints

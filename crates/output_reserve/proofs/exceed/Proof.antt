@@ -1,7 +1,7 @@
 use borrow.Author.Needs.{needs}
-use Rattle.output_budget.proofs.Reservations.{first-recorded}
-use Rattle.output_budget.proofs.DecodedOutputBudget.exceed.Statement.{statement}
-use Rattle.output_budget.proofs.DecodedOutputBudget.exceed.Tie as tie
+use Rattle.output_reserve.proofs.Reservations.{first-recorded}
+use Rattle.output_reserve.proofs.exceed.Statement.{statement}
+use Rattle.output_reserve.proofs.exceed.Tie as tie
 
 first-requires : tie.Need-first-requires
 first-requires c κs = search needs

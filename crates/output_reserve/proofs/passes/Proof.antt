@@ -1,7 +1,7 @@
 use borrow.Author.Needs.{needs}
-use Rattle.output_budget.proofs.Sums.{above-before, above-after, within}
-use Rattle.output_budget.proofs.passes.Statement.{statement}
-use Rattle.output_budget.proofs.passes.Tie as tie
+use Rattle.output_reserve.proofs.Sums.{above-before, above-after, within}
+use Rattle.output_reserve.proofs.passes.Statement.{statement}
+use Rattle.output_reserve.proofs.passes.Tie as tie
 
 returns : tie.Need-returns
 returns c = search (above-before, needs)
