@@ -10,12 +10,12 @@ use Rattle.config.specs.declared.PendingFlowsConfig.{PendingFlowsConfig}
 use Rattle.config.specs.declared.ConfigAnswer.{ConfigAnswer}
 use Rattle.config.specs.declared.ConfigAnswer.the-variants as Config
 use Rattle.config.specs.declared.ConfigRefusal.{ConfigRefusal}
-use Rattle.pendlist_lines.specs.declared.Line.{Line}
-use Rattle.pendlist_lines.specs.declared.Line.the-variants as Says
-use Rattle.pendlist_lines.specs.declared.OfferLine.{OfferLine}
-use Rattle.pendlist_lines.specs.declared.DrainLine.{DrainLine}
+use Rattle.pendlist_commands.specs.declared.Line.{Line}
+use Rattle.pendlist_commands.specs.declared.Line.the-variants as Says
+use Rattle.pendlist_commands.specs.declared.OfferLine.{OfferLine}
+use Rattle.pendlist_commands.specs.declared.DrainLine.{DrainLine}
 use Rattle.pendlist_lines.specs.Grammar.{lineOf, inOrder}
-use Rattle.pendlist_lines.specs.Body.{ramp}
+use Rattle.pendlist_input.specs.Body.{ramp}
 use Rattle.cache_model.specs.Cache.{Cache, Figures, Answer, number, tells, Outcome as Done}
 use Rattle.cache_model.specs.Offer.{offered}
 use Rattle.cache_model.specs.Calls.{drained}

@@ -5,10 +5,10 @@ use mathlib.Core.List.{List}
 use mathlib.Core.Option.{Option, none, some}
 use Prim.Native.Nat.{ℕ}
 use lib.ListN.{length}
-use Rattle.pendlist_lines.specs.declared.Line.{Line}
-use Rattle.pendlist_lines.specs.declared.Line.the-variants as Says
+use Rattle.pendlist_commands.specs.declared.Line.{Line}
+use Rattle.pendlist_commands.specs.declared.Line.the-variants as Says
 use Rattle.pendlist_lines.specs.Grammar.{lineOf, inOrder}
-use Rattle.pendlist_lines.specs.Body.{ramp}
+use Rattle.pendlist_input.specs.Body.{ramp}
 use Rattle.cache_model.specs.Cache.{Cache, Figures, Answer, done, number, count, says, shows, spans, tells}
 use Rattle.cache_model.specs.Offer.{offered}
 use Rattle.cache_model.specs.Calls.{drained}

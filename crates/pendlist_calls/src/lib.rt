@@ -1,8 +1,8 @@
 // One line of a list, carried out on the lent areas (document 01, "Cases").
 ghost use mathlib.Core.Path.{_≡_};
 ghost use lib.ListN.{length};
-ghost use Rattle.pendlist_lines.specs.declared.Line.the-variants as Says;
-ghost use Rattle.pendlist_lines.specs.Body.{ramp};
+ghost use Rattle.pendlist_commands.specs.declared.Line.the-variants as Says;
+ghost use Rattle.pendlist_input.specs.Body.{ramp};
 ghost use Rattle.cache_model.specs.Offer.{offered};
 ghost use Rattle.pending_flows.specs.View.{areasOf, view};
 ghost use Rattle.pending_calls.specs.Promises.{Performs};
@@ -19,10 +19,10 @@ use pending_flows::take_figures;
 use pending_offer::OfferAnswer;
 use pending_offer::OfferRefusal;
 use pending_offer::cache;
-use pendlist_lines::DrainLine;
-use pendlist_lines::Line;
-use pendlist_lines::OfferLine;
-use pendlist_lines::fill_body;
+use pendlist_commands::DrainLine;
+use pendlist_commands::Line;
+use pendlist_commands::OfferLine;
+use pendlist_input::fill_body;
 use pendlist_lines::in_order;
 use pendlist_lines::parse_line;
 use pendlist_rows::Outcome;

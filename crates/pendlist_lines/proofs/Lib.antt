@@ -1,4 +1,1 @@
-pub mod Ends
-pub mod Cuts
 pub mod Lines
-pub mod Ramp

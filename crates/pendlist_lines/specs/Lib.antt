@@ -1,4 +1,2 @@
 pub mod Grammar
-pub mod Input
-pub mod Body
 pub mod Tests

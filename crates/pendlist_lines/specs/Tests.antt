@@ -2,24 +2,17 @@
 use mathlib.Core.Path.{_≡_, refl}
 use mathlib.Core.List.{List, [], _∷_, _++_, map}
 use Prim.Native.Nat.{ℕ}
-use Prim.Native.Char.{code}
-use Prim.Native.String.{String, [] as []ˢ, _∷_ as _∷ˢ_}
+use Prim.Native.String.{String}
 use mathlib.Core.Bool.{true, false}
 use lib.ListN.{replicate}
 use Rattle.config.specs.declared.Ttl.{Ttl}
 use Rattle.config.specs.declared.Ttl.the-variants.{None, After}
-use Rattle.pendlist_lines.specs.declared.Line.{Line}
-use Rattle.pendlist_lines.specs.declared.Line.the-variants.{Open, Offer, Drain, Bad}
+use Rattle.pendlist_commands.specs.declared.Line.{Line}
+use Rattle.pendlist_commands.specs.declared.Line.the-variants.{Open, Offer, Drain, Bad}
 use Rattle.pendlist_lines.specs.Grammar.{wordsOf, isByte, allDigits, valueFrom, numberFrom, numberOf, ttlOf}
 use Rattle.pendlist_lines.specs.Grammar.{withNumber, withTtl, within16, openOf, offerOf, drainOf, isCommand}
 use Rattle.pendlist_lines.specs.Grammar.{fromWords, lineOf, inOrder}
-use Rattle.pendlist_lines.specs.Input.{firstLine}
-use Rattle.pendlist_lines.specs.Body.{ramp}
-
--- a text of ASCII characters as bytes
-abbrev pub bytesOf : String → List ℕ
-bytesOf []ˢ = []
-bytesOf (c ∷ˢ s) = code c ∷ bytesOf s
+pub use Rattle.pendlist_words.specs.Texts.{bytesOf}
 
 abbrev says : String → Line
 says s = lineOf (bytesOf s)
@@ -112,15 +105,3 @@ pub lines-in-order-after :
     map (inOrder true) (opens 2 2 10 16 None ∷ offers 300 6 0 ∷ drains 301 3 ∷ Bad ∷ [])
     ≡ Bad ∷ offers 300 6 0 ∷ drains 301 3 ∷ Bad ∷ []
 lines-in-order-after = refl
-
--- the first line of a text: no newline, one behind it, one in front, a carriage return left in it
-pub first-lines :
-    map (λ s. firstLine (bytesOf s)) ("" ∷ "d 1" ∷ "d 1\n" ∷ "d 1\nd 2\n" ∷ "\nd 1" ∷ "d\r\n" ∷ [])
-    ≡ map bytesOf ("" ∷ "d 1" ∷ "d 1" ∷ "d 1" ∷ "" ∷ "d\r" ∷ [])
-unfolding firstLine
-first-lines = refl
-
--- byte i of a body is i modulo 256
-pub bodies-right : (ramp 0 4 ≡ 0 ∷ 1 ∷ 2 ∷ 3 ∷ []) × (ramp 254 4 ≡ 254 ∷ 255 ∷ 0 ∷ 1 ∷ [])
-unfolding ramp
-bodies-right = (refl, refl)

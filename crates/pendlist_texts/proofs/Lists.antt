@@ -6,8 +6,8 @@ use Prim.Native.Nat.{ℕ, _+_, _*_, _-_, _≤_, _<_}
 use native.Mathlib.Omega.{arith}
 use lib.ListN.{length, take, drop, length-drop, drop-of-length-le}
 use lib.Seq.{take-all, drop-drop}
-use Rattle.pendlist_lines.specs.Input.{linesOf, firstLine}
-use Rattle.pendlist_lines.proofs.Ends.{first-of-lines, first-is-front}
+use Rattle.pendlist_input.specs.Input.{linesOf, firstLine}
+use Rattle.pendlist_input.proofs.Ends.{first-of-lines, first-is-front}
 use Rattle.pending_flows.specs.View.{Areas, view}
 use Rattle.pendlist_rows.specs.declared.Outcome.{Outcome}
 use Rattle.pendlist_rows.specs.Text.{outcomeText, Puts}

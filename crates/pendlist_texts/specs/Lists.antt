@@ -6,7 +6,7 @@ use mathlib.Core.Option.{Option}
 use Prim.Native.Nat.{ℕ, _+_, _*_, _≤_}
 use lib.ListN.{length, take, drop}
 use Rattle.pendlist_lines.specs.Grammar.{lineOf, inOrder}
-use Rattle.pendlist_lines.specs.Input.{linesOf, firstLine}
+use Rattle.pendlist_input.specs.Input.{linesOf, firstLine}
 use Rattle.cache_model.specs.Cache.{Cache}
 use Rattle.pending_flows.specs.View.{Areas, view}
 use Rattle.pendlist_rows.specs.declared.Outcome.{Outcome}

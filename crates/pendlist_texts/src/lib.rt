@@ -5,7 +5,7 @@ ghost use lib.ListN.{length};
 ghost use Rattle.pending_flows.specs.View.{areasOf};
 ghost use Rattle.pendlist_texts.specs.Lists.{isBad, RunsAt, RunsText};
 use pendlist_calls::run_line;
-use pendlist_lines::line_end;
+use pendlist_input::line_end;
 use pendlist_rows::Outcome;
 use pendlist_rows::put_outcome;
 

@@ -9,9 +9,9 @@ use lib.ListN.{length, take, drop, length-append, length-drop}
 use lib.Seq.{take-length}
 use lib.Dec.{leb}
 use borrow.Author.Tests.{leb-false}
-use Rattle.pendlist_lines.specs.Input.{linesOf, firstLine, wholeLines}
-use Rattle.pendlist_lines.proofs.Ends.{first-of-lines}
-use Rattle.pendlist_lines.proofs.Cuts.{lines-parted, rest-in-first}
+use Rattle.pendlist_input.specs.Input.{linesOf, firstLine, wholeLines}
+use Rattle.pendlist_input.proofs.Ends.{first-of-lines}
+use Rattle.pendlist_input.proofs.Cuts.{lines-parted, rest-in-first}
 use Rattle.pendlist_lines.proofs.Lines.{too-long}
 use Rattle.cache_model.specs.Cache.{Cache}
 use Rattle.pendlist_rows.specs.Text.{outcomeText}

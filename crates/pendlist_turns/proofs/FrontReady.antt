@@ -6,7 +6,7 @@ use native.Mathlib.Omega.{arith}
 use lib.ListN.{length, take}
 use lib.Seq.{length-take-le}
 use borrow.Author.Tests.{eq-eqb, ne-eqb, le-leb, lt-leb}
-use Rattle.pendlist_lines.specs.Input.{wholeLines}
+use Rattle.pendlist_input.specs.Input.{wholeLines}
 use Rattle.pendlist_turns.specs.Turns.{readyOf, Ready}
 
 module _ (buffer : List ℕ) (kept n : ℕ) (h : n ≤ length buffer) where

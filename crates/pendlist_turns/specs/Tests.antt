@@ -9,8 +9,8 @@ use Rattle.config.specs.Limits.{limitsNumber, areasHold, configNumber}
 use Rattle.pendlist_lines.specs.Grammar.{wordsOf, isByte, allDigits, valueFrom, numberFrom, numberOf, ttlOf}
 use Rattle.pendlist_lines.specs.Grammar.{withNumber, withTtl, within16, openOf, offerOf, drainOf, isCommand}
 use Rattle.pendlist_lines.specs.Grammar.{fromWords, lineOf}
-use Rattle.pendlist_lines.specs.Input.{linesOf, wholeLines}
-use Rattle.pendlist_lines.specs.Body.{ramp}
+use Rattle.pendlist_input.specs.Input.{linesOf, wholeLines}
+use Rattle.pendlist_input.specs.Body.{ramp}
 use Rattle.pendlist_lines.specs.Tests.{bytesOf}
 use Rattle.cache_model.specs.Removal.{evicted, evictions, pruned}
 use Rattle.cache_model.specs.Offer.{appended, step2, step3, step4, step5, addNewest, step4or5, afterStep3, afterStep2}

@@ -8,7 +8,7 @@ use Prim.Native.Nat.{ℕ, _-_, _≤_}
 use lib.Dec.{eqb, leb}
 use lib.ListN.{length, take, drop}
 use Rattle.pendlist_lines.specs.Grammar.{longest}
-use Rattle.pendlist_lines.specs.Input.{linesOf, wholeLines}
+use Rattle.pendlist_input.specs.Input.{linesOf, wholeLines}
 use Rattle.cache_model.specs.Cache.{Cache}
 use Rattle.pendlist_texts.specs.Lists.{ListState, afterLines, rowsOf}
 

@@ -2,10 +2,10 @@
 ghost use mathlib.Core.Path.{_≡_};
 ghost use Prim.Native.Nat.{_≤_};
 ghost use lib.ListN.{length, take};
-ghost use Rattle.pendlist_lines.specs.Input.{wholeLines};
+ghost use Rattle.pendlist_input.specs.Input.{wholeLines};
 ghost use Rattle.pendlist_turns.specs.Turns.{Ready};
+use pendlist_input::whole_lines;
 use pendlist_lines::MAX_LINE;
-use pendlist_lines::whole_lines;
 
 // How many of the buffer's first n bytes are whole lines.
 fn lines_among(buffer: &[u8], n: usize) -> usize

@@ -1,3 +1,4 @@
 pub mod Words
 pub mod Starts
 pub mod Digits
+pub mod Texts

@@ -1,9 +1,9 @@
 // What a line says or comes to, set against the text of a row.
 use config::PendingFlowsConfig;
 use config::Ttl;
-use pendlist_lines::DrainLine;
-use pendlist_lines::Line;
-use pendlist_lines::OfferLine;
+use pendlist_commands::DrainLine;
+use pendlist_commands::Line;
+use pendlist_commands::OfferLine;
 use pendlist_rows::Outcome;
 use pendlist_rows::Row;
 use recorded::next_number;

@@ -12,7 +12,7 @@ use libc::STDIN_FILENO;
 use pendlist_calls::byte_area;
 use pendlist_calls::run_line;
 use pendlist_calls::word_area;
-use pendlist_lines::line_end;
+use pendlist_input::line_end;
 use pendlist_lines::parse_line;
 use pendlist_rows::Outcome;
 use recorded::Tally;

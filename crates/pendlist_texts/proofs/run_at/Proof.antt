@@ -1,7 +1,7 @@
 use Prim.Native.Nat.{_+_, _≤_}
 use native.Mathlib.Omega.{arith}
 use lib.ListN.{length}
-use Rattle.pendlist_lines.proofs.Ends.{line-counted, line-within}
+use Rattle.pendlist_input.proofs.Ends.{line-counted, line-within}
 use Rattle.pendlist_texts.proofs.Lists.{line-lent}
 use borrow.Author.Needs.{needs}
 use Rattle.pendlist_texts.proofs.run_at.Statement.{statement}

@@ -1,5 +1,5 @@
 use lib.Seq.{length-take-le}
-use Rattle.pendlist_lines.proofs.Ends.{whole-among}
+use Rattle.pendlist_input.proofs.Ends.{whole-among}
 use borrow.Author.Needs.{needs}
 use Rattle.pendlist_turns.proofs.lines_among.Statement.{statement}
 use Rattle.pendlist_turns.proofs.lines_among.Tie as tie

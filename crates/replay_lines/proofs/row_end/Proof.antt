@@ -1,6 +1,6 @@
 use Prim.Native.Nat.{_+_, _≤_}
 use lib.ListN.{length}
-use Rattle.pendlist_lines.proofs.Ends.{line-within}
+use Rattle.pendlist_input.proofs.Ends.{line-within}
 use borrow.Author.Needs.{needs}
 use Rattle.replay_lines.proofs.row_end.Statement.{statement}
 use Rattle.replay_lines.proofs.row_end.Tie as tie

@@ -1,0 +1,49 @@
+use Rattle.pendlist_input.proofs.Ends.{LinesAhead, text-ahead, newline-found, other-byte, no-newline}
+use borrow.Author.Needs.{needs}
+use Rattle.pendlist_input.proofs.whole_lines.Statement.{statement}
+use Rattle.pendlist_input.proofs.whole_lines.Tie as tie
+
+abbrev Inv-loop : tie.InvT-loop
+Inv-loop text end₀ end = LinesAhead text end
+
+abbrev μ-loop : tie.MeasureT-loop
+μ-loop text end₀ end = end
+
+loop-holds : tie.Need-loop-holds Inv-loop μ-loop
+loop-holds c = search (text-ahead, needs)
+
+sub-if1 : tie.Need-sub-if1 Inv-loop μ-loop
+sub-if1 c = search needs
+
+shared-slice-read-if1 : tie.Need-shared-slice-read-if1 Inv-loop μ-loop
+shared-slice-read-if1 c = search needs
+
+returns : tie.Need-returns Inv-loop μ-loop
+returns c = search (newline-found, needs)
+
+sub-end : tie.Need-sub-end Inv-loop μ-loop
+sub-end c = search needs
+
+loop-less : tie.Need-loop-less Inv-loop μ-loop
+loop-less c = search needs
+
+loop-again : tie.Need-loop-again Inv-loop μ-loop
+loop-again c = search (other-byte, needs)
+
+returns-2 : tie.Need-returns-2 Inv-loop μ-loop
+returns-2 c = search (no-newline, needs)
+
+pub whole-lines-spec : {M : Type 1} → statement M
+whole-lines-spec =
+    tie.close
+    (tie.spec
+    Inv-loop
+    μ-loop
+    loop-holds
+    sub-if1
+    shared-slice-read-if1
+    returns
+    sub-end
+    loop-less
+    loop-again
+    returns-2)
