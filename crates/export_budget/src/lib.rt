@@ -64,7 +64,7 @@ pub fn is_exceeded(budget: &[u64; 7], answer: &mut [u64; 1]) -> u32
     ensures { λ r. ⌜ TellsExceeded (now (budget .entry)) r (now (answer .entry)) (now (answer .exit)) ⌝ }
 {
     let b = read_budget(budget);
-    if b.is_exceeded() {
+    if output_excess::is_exceeded(b) {
         *answer = [1];
     } else {
         *answer = [0];
@@ -78,7 +78,7 @@ pub fn take_exceeded(budget: &mut [u64; 7], excess: &mut [u64; 3]) -> u32
         ⌜ TakesIn r (now (excess .entry)) (now (excess .exit)) (now (budget .entry)) (now (budget .exit)) ⌝ }
 {
     let b = read_budget(budget);
-    let taken = b.take_exceeded();
+    let taken = output_excess::take_exceeded(b);
     let answer = taken.answer;
     let after = taken.budget;
     write_budget(after, budget);

@@ -3,8 +3,7 @@ use output_preflight::FieldValues;
 use output_preflight::PayloadBytes;
 ghost use mathlib.Core.Path.{_≡_};
 ghost use Prim.Native.Nat.{_-_};
-ghost use Rattle.output_budget.specs.Budget.{opened, useOf, remainingOf, isRecorded, Takes};
-ghost use Rattle.output_budget.specs.Budget.{withUse, grown, SumsWithin};
+ghost use Rattle.output_budget.specs.Budget.{opened, useOf, remainingOf, withUse, grown, SumsWithin};
 
 // Which limit an excess is of.
 pub enum DecodedOutputLimit {
@@ -137,26 +136,6 @@ impl DecodedOutputBudget {
             values: FieldValues(left(self.max_values.0, self.used_values.0)),
             payload_bytes: PayloadBytes(left(self.max_payload_bytes.0, self.used_payload_bytes.0)),
         }
-    }
-
-    // Whether an excess is recorded.
-    pub fn is_exceeded(self) -> bool
-        ensures { λ r. ⌜ r ≡ isRecorded (self .exceeded) ⌝ }
-    {
-        let exceeded = self.exceeded;
-        match exceeded {
-            Exceeded::None => false,
-            Exceeded::Recorded(_) => true,
-        }
-    }
-
-    // The recorded excess, which is recorded no longer.
-    pub fn take_exceeded(self) -> TakeOutcome
-        ensures { λ r. ⌜ Takes self (r .answer) (r .budget) ⌝ }
-    {
-        let answer = self.exceeded;
-        let budget = self.with_use(self.used_values, self.used_payload_bytes, Exceeded::None);
-        TakeOutcome { answer, budget }
     }
 
     // The use grown by two counts, whose sums the caller has tested: `output_reserve` or `output_pending`.

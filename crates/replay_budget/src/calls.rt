@@ -5,6 +5,8 @@ use output_budget::Exceeded;
 use output_budget::OutputBudgetExceeded;
 use output_budget::ReserveAnswer;
 use output_budget::RollbackAnswer;
+use output_excess::is_exceeded;
+use output_excess::take_exceeded;
 use output_lent::materialize_by_loan;
 use output_lent::reserve_by_loan;
 use output_lent::rollback_by_loan;
@@ -263,7 +265,7 @@ fn run_materialize(
 }
 
 fn run_take(b: DecodedOutputBudget) -> Answered {
-    let taken = b.take_exceeded();
+    let taken = take_exceeded(b);
     let answer = taken.answer;
     let after = taken.budget;
     told_exceeded(answer, after)
@@ -340,7 +342,7 @@ fn run_counts(row: [u64; 19], b: DecodedOutputBudget) -> Answered {
             let left = b.remaining();
             told(0, left.values.0 as u64, left.payload_bytes.0 as u64, b)
         }
-        _ => told(0, bit(b.is_exceeded()), 0, b),
+        _ => told(0, bit(is_exceeded(b)), 0, b),
     }
 }
 
