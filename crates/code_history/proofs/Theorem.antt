@@ -18,7 +18,7 @@ use Rattle.history.specs.Account.{Opening, openingNumber, Event, refusedOpening
 use Rattle.history.specs.Claim.{unnumbered, OpeningPromised, Linked, Run, Accounted}
 use Rattle.history.proofs.Theorem.{every-run-accounted}
 use Rattle.pending_flows.specs.View.{Areas, view}
-use Rattle.pending_flows.specs.Queries.{Asks}
+use Rattle.pending_queries.specs.Queries.{Asks}
 use Rattle.pending_offer.specs.declared.offering.OfferAnswer.{OfferAnswer}
 use Rattle.pending_offer.specs.declared.offering.OfferAnswer.the-variants as Answered
 use Rattle.pending_offer.specs.Promises.{Offers, offerAnswer}

@@ -18,7 +18,7 @@ use Rattle.cache_model.specs.History.{Call, does}
 use Rattle.cache_model.specs.Reply.{called}
 use Rattle.history.specs.Claim.{unnumberedBody, unnumbered, Promised}
 use Rattle.pending_flows.specs.View.{Areas, cacheOf, view}
-use Rattle.pending_flows.proofs.Figures.{figures-read}
+use Rattle.pending_queries.proofs.Figures.{figures-read}
 
 abbrev pub HoldsCache : Areas → Type 0
 HoldsCache a = wellFormed (a .words) (length (a .bytes)) ≡ true

@@ -12,11 +12,11 @@ use Rattle.cache_model.specs.Queries.{wouldAccept, handedOut}
 use Rattle.history.specs.Account.{History, accountOf, answersOf}
 use Rattle.history.specs.Claim.{unnumbered, offersIn, Fates}
 use Rattle.pending_flows.specs.View.{Areas, view}
-use Rattle.pending_flows.specs.declared.queries.AcceptAnswer.the-variants as Accept
-use Rattle.pending_flows.specs.Queries.{Asks, acceptAnswer}
-use Rattle.pending_flows.specs.declared.handed_out.BodyPlace.{BodyPlace}
-use Rattle.pending_flows.specs.declared.handed_out.PlaceAnswer.the-variants as Place
-use Rattle.pending_flows.specs.HandedOut.{PlacesHandedOut}
+use Rattle.pending_queries.specs.declared.AcceptAnswer.the-variants as Accept
+use Rattle.pending_queries.specs.Queries.{Asks, acceptAnswer}
+use Rattle.pending_handed_out.specs.declared.BodyPlace.{BodyPlace}
+use Rattle.pending_handed_out.specs.declared.PlaceAnswer.the-variants as Place
+use Rattle.pending_handed_out.specs.HandedOut.{PlacesHandedOut}
 use Rattle.pending_offer.specs.declared.offering.OfferAnswer.{OfferAnswer}
 use Rattle.pending_offer.specs.declared.offering.OfferAnswer.the-variants as Offer
 use Rattle.pending_offer.specs.Promises.{Offers}

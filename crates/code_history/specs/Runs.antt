@@ -13,11 +13,11 @@ use Rattle.cache_model.specs.History.{PlaceHandedOut, TakeFigures}
 use Rattle.history.specs.Account.{Opening, Event, call, refusedOpening, History}
 use Rattle.pending_flows.specs.View.{Areas}
 use Rattle.pending_flows.specs.Opening.{Opens, openingAnswer}
-use Rattle.pending_flows.specs.declared.queries.AcceptAnswer.{AcceptAnswer}
-use Rattle.pending_flows.specs.declared.queries.FiguresAnswer.{FiguresAnswer}
-use Rattle.pending_flows.specs.Queries.{Asks, acceptAnswer, figuresAnswer}
-use Rattle.pending_flows.specs.declared.handed_out.PlaceAnswer.{PlaceAnswer}
-use Rattle.pending_flows.specs.HandedOut.{PlacesHandedOut, ReadsHandedOut, placeAnswer}
+use Rattle.pending_queries.specs.declared.AcceptAnswer.{AcceptAnswer}
+use Rattle.pending_queries.specs.declared.FiguresAnswer.{FiguresAnswer}
+use Rattle.pending_queries.specs.Queries.{Asks, acceptAnswer, figuresAnswer}
+use Rattle.pending_handed_out.specs.declared.PlaceAnswer.{PlaceAnswer}
+use Rattle.pending_handed_out.specs.HandedOut.{PlacesHandedOut, ReadsHandedOut, placeAnswer}
 use Rattle.pending_calls.specs.declared.clearing.ClearAnswer.{ClearAnswer}
 use Rattle.pending_calls.specs.Promises.{Clears, clearAnswer}
 use Rattle.pending_drain.specs.declared.draining.DrainAnswer.{DrainAnswer}

@@ -10,7 +10,7 @@ use Rattle.config.specs.Limits.{answerNumber}
 use Rattle.cache_model.specs.Cache.{Cache, Answer}
 use Rattle.pending_flows.specs.View.{Areas}
 use Rattle.pending_flows.specs.Opening.{Opens, openingAnswer}
-use Rattle.pending_flows.specs.Queries.{Asks}
+use Rattle.pending_queries.specs.Queries.{Asks}
 use Rattle.export_queries.specs.Exports.{exportedNumber, Exported, Exports, ExportsValues}
 use Rattle.export_queries.specs.Exports.{ExportsOpen, ExportsQuery}
 

@@ -13,10 +13,10 @@ use Rattle.cache_model.specs.Queries.{wouldAccept, figures}
 use Rattle.cache_model.specs.Told.{limitsOf}
 use Rattle.pending_flows.specs.View.{Areas, view}
 use Rattle.pending_flows.specs.Opening.{Opens, openingIn}
-use Rattle.pending_flows.specs.Queries.{Asks, asked}
-use Rattle.pending_flows.specs.HandedOut.{PlacesHandedOut, placeAnswer}
-use Rattle.pending_flows.specs.declared.handed_out.PlaceAnswer.{PlaceAnswer}
-use Rattle.pending_flows.specs.declared.handed_out.PlaceAnswer.the-variants as Place
+use Rattle.pending_queries.specs.Queries.{Asks, asked}
+use Rattle.pending_handed_out.specs.HandedOut.{PlacesHandedOut, placeAnswer}
+use Rattle.pending_handed_out.specs.declared.PlaceAnswer.{PlaceAnswer}
+use Rattle.pending_handed_out.specs.declared.PlaceAnswer.the-variants as Place
 
 -- limits as numbers, in document 01's order; `has` is 0 where there is no TTL
 abbrev pub limitsFrom : (t b e m has ttl : ℕ) → PendingFlowsConfig

@@ -2,14 +2,14 @@
 ghost use mathlib.Core.Path.{_≡_};
 ghost use mathlib.Core.List.{[], _∷_};
 ghost use Rattle.pending_flows.specs.View.{areasOf};
-ghost use Rattle.pending_flows.specs.Queries.{acceptAnswer, figuresAnswer};
-ghost use Rattle.pending_flows.specs.HandedOut.{placeNumber};
+ghost use Rattle.pending_queries.specs.Queries.{acceptAnswer, figuresAnswer};
+ghost use Rattle.pending_handed_out.specs.HandedOut.{placeNumber};
 ghost use Rattle.export_queries.specs.Exports.{Exported, ExportedPlace};
 ghost use Rattle.export_queries.specs.Exports.{ExportsWouldAccept, ExportsFigures, ExportsPlace};
-use pending_flows::AcceptAnswer;
-use pending_flows::FiguresAnswer;
-use pending_flows::PlaceAnswer;
-use pending_flows::PlaceRefusal;
+use pending_handed_out::PlaceAnswer;
+use pending_handed_out::PlaceRefusal;
+use pending_queries::AcceptAnswer;
+use pending_queries::FiguresAnswer;
 
 // Answers the number, and writes 1 for yes or 0 for no on success.
 fn export_accepts(answer: AcceptAnswer, accepts: &mut u64) -> u32
@@ -42,7 +42,7 @@ pub fn would_accept(
         (areasOf (now (words .exit)) (now (bytes .exit))) (now (accepts .entry)) (now (accepts .exit)) ⌝ }
 {
     export_accepts(
-        pending_flows::would_accept(words, bytes, id, length, clock),
+        pending_queries::would_accept(words, bytes, id, length, clock),
         accepts,
     )
 }
@@ -73,7 +73,7 @@ pub fn figures(words: &[u64], bytes: &[u8], figures: &mut [u64; 6]) -> u32
         ⌜ ExportsFigures (areasOf (now (words .entry)) (now (bytes .entry))) r
         (areasOf (now (words .exit)) (now (bytes .exit))) (now (figures .entry)) (now (figures .exit)) ⌝ }
 {
-    export_figures(pending_flows::take_figures(words, bytes), figures)
+    export_figures(pending_queries::take_figures(words, bytes), figures)
 }
 
 // Document 01's number where there is no place.
@@ -107,5 +107,8 @@ pub fn place_handed_out(words: &[u64], bytes: &[u8], number: usize, place: &mut 
         ⌜ ExportsPlace number (areasOf (now (words .entry)) (now (bytes .entry))) r
         (areasOf (now (words .exit)) (now (bytes .exit))) (now (place .entry)) (now (place .exit)) ⌝ }
 {
-    export_place(pending_flows::place_handed_out(words, bytes, number), place)
+    export_place(
+        pending_handed_out::place_handed_out(words, bytes, number),
+        place,
+    )
 }

@@ -3,4 +3,3 @@ pub mod Templates
 pub mod Questions
 pub mod Weights
 pub mod Figures
-pub mod HandedOut

@@ -2,11 +2,10 @@
 use mathlib.Core.Path.{_≡_, refl, ap, _∙_, sym}
 use mathlib.Core.Bool.{Bool, true, false, not, _&&_, cond}
 use mathlib.Core.List.{List, [], _∷_}
-use Prim.Native.Nat.{ℕ, zero, suc, _+_, _-_, _≤_, _<_}
+use Prim.Native.Nat.{ℕ, suc, _+_}
 use native.Mathlib.Omega.{arith}
 use lib.Dec.{eqb}
-use lib.ListN.{length, getD, length-append}
-use borrow.Author.Tests.{ne-eqb}
+use lib.ListN.{length, length-append}
 use Rattle.config.specs.declared.Ttl.{Ttl}
 use Rattle.config.specs.Age.{expiredAt}
 use Rattle.config.proofs.Lists.{All}
@@ -14,14 +13,9 @@ use Rattle.table.specs.declared.Entry.{Entry}
 use Rattle.table.specs.declared.TemplateRecord.{TemplateRecord}
 use Rattle.table.specs.declared.LabelFound.{LabelFound}
 use Rattle.table.specs.declared.LabelFound.the-variants as Label
-use Rattle.table_watch.specs.declared.EntryFound.{EntryFound}
-use Rattle.table_watch.specs.declared.EntryFound.the-variants as Found
 use Rattle.table.specs.Table.{tally}
 use Rattle.table.specs.Reads.{labelOf, liveCount, countSum, labelOrNone}
-use Rattle.table_watch.specs.Watch.{nthWatched, watchOf}
-use Rattle.table_watch.proofs.LiveWatch.{any-clock}
 use Rattle.cache_model.specs.Bodies.{Body, keep, allBodies, bodiesOf, expired}
-use Rattle.cache_model.specs.Queries.{noBody}
 use Rattle.pending_flows.specs.View.{bodyAt, bodiesAt, templatesAt}
 
 module _ (bytes : List ℕ) where
@@ -105,36 +99,3 @@ module _ (bytes : List ℕ) where
       let c = h .0 in
       let b = length-bodies (r .label) es in
       omega (arith, length-append (bodiesAt bytes (r .label) es) (allBodies (templatesAt bytes es rs)))
-
-  -- the n-th body of a label, by the n-th entry
-  abbrev pub NthBody : ℕ → List Body → EntryFound → Type 0
-  NthBody n bs Found.Nothing = length bs ≤ n
-  NthBody n bs (Found.At e) = (n < length bs) × (getD bs n noBody ≡ bodyAt bytes e)
-
-  pub nth-body : (k n nth : ℕ) (es : List Entry) →
-      NthBody n (bodiesAt bytes k es) (nthWatched (watchOf k 0 nth) n es)
-  unfolding nthWatched
-  nth-body k n nth [] = omega arith
-  nth-body k n nth (e ∷ es) = rw (any-clock k nth e) (by-label (eqb k (e .label)) (λ m. nth-body k m nth es))
-    where
-      bs : List Body
-      bs = bodiesAt bytes k es
-
-      later : ℕ → EntryFound
-      later m = nthWatched (watchOf k 0 nth) m es
-
-      further : (m : ℕ) (x : EntryFound) → NthBody m bs x → NthBody (suc m) (bodyAt bytes e ∷ bs) x
-      further m Found.Nothing h = omega arith
-      further m (Found.At f) h = (omega (arith, h .0), h .1)
-
-      counted : (n : ℕ) → ((m : ℕ) → NthBody m bs (later m)) →
-          NthBody n (bodyAt bytes e ∷ bs) (cond (eqb n 0) (Found.At e) (later (n - 1)))
-      counted zero ih = (omega arith, refl)
-      counted (suc m) ih = let z : suc m - 1 ≡ m = omega arith in rw (z, ne-eqb (suc m) 0 (λ q. omega arith))
-          (further m (later m) (ih m))
-
-      by-label : (b : Bool) → ((m : ℕ) → NthBody m bs (later m)) →
-          NthBody n (cond b (bodyAt bytes e ∷ bs) bs)
-          (cond (b && true) (cond (eqb n 0) (Found.At e) (later (n - 1))) (later n))
-      by-label true ih = counted n ih
-      by-label false ih = ih n

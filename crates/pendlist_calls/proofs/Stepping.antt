@@ -23,10 +23,10 @@ use Rattle.cache_model.specs.Queries.{figures}
 use Rattle.cache_model.specs.Reply.{Reply, called}
 use Rattle.pending_flows.specs.View.{Areas, view}
 use Rattle.pending_flows.specs.Opening.{Opens, openingIn}
-use Rattle.pending_flows.specs.Queries.{asked, figuresRecord, figuresAnswer}
-use Rattle.pending_flows.specs.declared.queries.CacheFigures.{CacheFigures}
-use Rattle.pending_flows.specs.declared.queries.FiguresAnswer.{FiguresAnswer}
-use Rattle.pending_flows.specs.declared.queries.FiguresAnswer.the-variants as Figured
+use Rattle.pending_queries.specs.Queries.{asked, figuresRecord, figuresAnswer}
+use Rattle.pending_queries.specs.declared.CacheFigures.{CacheFigures}
+use Rattle.pending_queries.specs.declared.FiguresAnswer.{FiguresAnswer}
+use Rattle.pending_queries.specs.declared.FiguresAnswer.the-variants as Figured
 use Rattle.pending_calls.specs.Promises.{Performs}
 use Rattle.pending_offer.specs.Promises.{bodyOf, Offers, offerAnswer}
 use Rattle.pending_offer.specs.declared.offering.OfferAnswer.{OfferAnswer}

@@ -1,9 +1,9 @@
 // The list of a row against the areas, read here by docs/LAYOUT.md and not by the cache's own code.
 use super::bodies::same_bytes;
 use super::rows::goes_on;
-use pending_flows::PlaceAnswer;
-use pending_flows::place_handed_out;
-use pending_flows::read_handed_out;
+use pending_handed_out::PlaceAnswer;
+use pending_handed_out::place_handed_out;
+use pending_handed_out::read_handed_out;
 use recorded::next_number;
 
 // The offers whose length and clock reading are kept: lengths from word 0 on, clock readings from here on.

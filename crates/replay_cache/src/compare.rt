@@ -1,7 +1,7 @@
 // What a row has against the answer of its call and the areas after it.
 use libc::STDOUT_FILENO;
-use pending_flows::FiguresAnswer;
-use pending_flows::take_figures;
+use pending_queries::FiguresAnswer;
+use pending_queries::take_figures;
 use recorded_cache::Answered;
 use recorded_cache::Row;
 use recorded_cache::goes_on;
