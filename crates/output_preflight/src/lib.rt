@@ -7,7 +7,7 @@ ghost use Rattle.output_scan.specs.Scan.{scanOf};
 ghost use Rattle.output_preflight.specs.Preflight.{numberOf, answerOf, figuresOf, costOf, preflightOf};
 use output_scan::Scanned;
 use output_scan::scan_fixed_body;
-use output_scan::scan_variable_body;
+use output_scan_variable::scan_variable_body;
 use wire::Reading;
 
 // A count of decoded field values.

@@ -4,4 +4,3 @@ pub mod Records
 pub mod Fixed
 pub mod Spare
 pub mod Layouts
-pub mod Alone

@@ -1,9 +1,9 @@
 use mathlib.Core.Path.{sym, _∙_}
 use Rattle.output_scan.proofs.Fixed.{by-division}
 use Rattle.output_scan.proofs.Layouts.{fixed-plain}
 use borrow.Author.Needs.{needs}
-use Rattle.output_scan.proofs.scan_variable_body.Statement.{statement}
-use Rattle.output_scan.proofs.scan_variable_body.Tie as tie
+use Rattle.output_scan_variable.proofs.scan_variable_body.Statement.{statement}
+use Rattle.output_scan_variable.proofs.scan_variable_body.Tie as tie
 
 layout-of-requires : tie.Need-layout-of-requires
 layout-of-requires c κs = search needs

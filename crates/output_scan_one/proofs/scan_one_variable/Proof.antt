@@ -4,12 +4,12 @@ use mathlib.Core.Logic.{⊎-elim}
 use native.Mathlib.Omega.{arith}
 use borrow.Author.Needs.{needs}
 use Rattle.output_fields.proofs.Tails.{tail-length}
 use Rattle.output_scan.proofs.Least.{too-short}
 use Rattle.output_scan.proofs.Records.{cut-field, stopped, at-limit, fewer-left}
-use Rattle.output_scan.proofs.Alone.{Stepped, short-step, long-step, AlonePassed, none-alone, alone-passed}
-use Rattle.output_scan.proofs.Alone.{lead-inside, prefix-missing, content-missing}
-use Rattle.output_scan.proofs.scan_one_variable.Statement.{statement}
-use Rattle.output_scan.proofs.scan_one_variable.Tie as tie
+use Rattle.output_scan_one.proofs.Alone.{Stepped, short-step, long-step, AlonePassed, none-alone, alone-passed}
+use Rattle.output_scan_one.proofs.Alone.{lead-inside, prefix-missing, content-missing}
+use Rattle.output_scan_one.proofs.scan_one_variable.Statement.{statement}
+use Rattle.output_scan_one.proofs.scan_one_variable.Tie as tie
 
 abbrev Inv-loop : tie.InvT-loop
 Inv-loop body widths lead least max-records rest₀ records₀ long₀ rest records long =

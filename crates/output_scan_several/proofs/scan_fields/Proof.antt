@@ -4,14 +4,14 @@ use native.Mathlib.Omega.{arith}
 use borrow.Author.Needs.{needs}
 use lib.ListN.{length}
 use Rattle.wire.specs.declared.Reading.the-variants.{IpfixVariable}
 use Rattle.output_scan.proofs.Least.{too-short}
 use Rattle.output_scan.proofs.Records.{cut-field, RecordsPassed, no-record-passed, record-passed}
 use Rattle.output_scan.proofs.Records.{stopped, at-limit}
 use Rattle.output_scan.proofs.Spare.{FieldsSpared, none-spared, starts-inside, fixed-spared, short-spared}
 use Rattle.output_scan.proofs.Spare.{short-cut, long-inside, prefix-cut, long-spared, long-cut}
 use Rattle.output_scan.proofs.Spare.{all-spared, rest-spared}
-use Rattle.output_scan.proofs.scan_fields.Statement.{statement}
-use Rattle.output_scan.proofs.scan_fields.Tie as tie
+use Rattle.output_scan_several.proofs.scan_fields.Statement.{statement}
+use Rattle.output_scan_several.proofs.scan_fields.Tie as tie
 
 abbrev Inv-fields : tie.InvT-fields
 Inv-fields body widths least max-records rest records payload next₀ at₀ prefixes₀ i₀ next at prefixes i =
