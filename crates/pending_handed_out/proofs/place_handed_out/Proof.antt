@@ -1,3 +1,4 @@
+use mathlib.Core.Path.{refl}
 use borrow.Author.Needs.{needs}
 use Rattle.pending_handed_out.proofs.HandedOut.{place-damaged, not-handed-out, handed-out-at}
 use Rattle.pending_handed_out.proofs.place_handed_out.Statement.{statement}
@@ -16,7 +17,7 @@ enum-told : tie.Need-enum-told
 enum-told c = search needs
 
 returns : tie.Need-returns
-returns c = search (place-damaged, needs)
+returns c = place-damaged _ _ _ (c .before .before .examine .ensures) (c .enum-told .given .1)
 
 enum-known-found : tie.Need-enum-known-found
 enum-known-found c = search needs
@@ -25,10 +26,15 @@ enum-told-2 : tie.Need-enum-told-2
 enum-told-2 c = search needs
 
 returns-2 : tie.Need-returns-2
-returns-2 c = search (not-handed-out, needs)
+returns-2 c =
+    let known = c .before .before .before in
+    not-handed-out _ _ _ (known .before .before .examine .ensures) (known .seen .given .1) refl (c .enum-told2 .given .1)
 
 returns-3 : tie.Need-returns-3
-returns-3 c = search (handed-out-at, needs)
+returns-3 c =
+    let known = c .before .before .before .before in
+    handed-out-at _ _ _ (known .before .before .examine .ensures) (known .seen .given .1) refl _
+    (c .before .found .given .1)
 
 pub place-handed-out-spec : {M : Type 1} → statement M
 place-handed-out-spec =
