@@ -17,9 +17,10 @@ use Rattle.table.specs.declared.Entry.{Entry}
 use Rattle.table.specs.declared.TemplateRecord.{TemplateRecord}
 use Rattle.table.specs.Table.{tally}
 use Rattle.table.specs.Passes.{heldLen, lessAt}
-use Rattle.table_passes.specs.Passes.{recordFresh, recordsPass, allowedBy, entryFits, entriesPass}
+use Rattle.table_passes.specs.Passes.{recordFresh, recordsPass, allowedBy}
+use Rattle.table_entry_test.specs.EntriesPass.{entryFits, entriesPass}
 use Rattle.table_passes.proofs.RecordsPass.{Fresh, fresh-says}
-use Rattle.table_passes.proofs.EntriesPass.{Fits, fits-says}
+use Rattle.table_entry_test.proofs.EntriesPass.{Fits, fits-says}
 use Rattle.table.proofs.Facts.{Differ, Placed, LegalRecord}
 use Rattle.table.proofs.Draws.{sumOf, sum-set, in-list, draws}
 use Rattle.table.proofs.Labels.{Absent, labelsOf, sumBut}

@@ -12,7 +12,8 @@ use Rattle.table.specs.declared.TemplateRecord.{TemplateRecord}
 use Rattle.table.specs.Table.{Table, hasLabel, tally, sumLens}
 use Rattle.table.specs.WellFormed.{indexRises, tableLegal}
 use Rattle.table.specs.Passes.{firstLabel}
-use Rattle.table_passes.specs.Passes.{recordsPass, allowedBy, entriesPass}
+use Rattle.table_passes.specs.Passes.{recordsPass, allowedBy}
+use Rattle.table_entry_test.specs.EntriesPass.{entriesPass}
 use Rattle.table.proofs.Facts.{Differ, LegalRecord, LegalEntry, LegalTable, table-says, table-holds}
 use Rattle.table.proofs.Draws.{sumOf, sum-zero, sum-replicate, draws, draws-exact, exact-draws}
 use Rattle.table.proofs.Index.{index-differs}

@@ -14,7 +14,8 @@ use Rattle.table.specs.Table.{tableOf, index, records, entriesFrom, recordsFrom
 use Rattle.table.specs.WellFormed.{indexRises, tableLegal}
 use Rattle.table.specs.Passes.{firstLabel}
 use Rattle.table_check.specs.Header.{HeaderLegal}
-use Rattle.table_passes.specs.Passes.{recordsPass, allowedBy, Allowed, KeysSmall, entriesPass}
+use Rattle.table_passes.specs.Passes.{recordsPass, allowedBy, Allowed, KeysSmall}
+use Rattle.table_entry_test.specs.EntriesPass.{entriesPass}
 use Rattle.table_watch.specs.declared.Sought.{Sought}
 use Rattle.table_watch.specs.declared.TableSeen.{TableSeen}
 use Rattle.table_watch.specs.declared.Watch.{Watch}

@@ -25,7 +25,7 @@ use table::TTL_SET;
 use table::first_label;
 use table::limits_at;
 use table::records_at;
-use table_passes::entries_pass;
+use table_entry_test::entries_pass;
 use table_passes::index_rises;
 use table_passes::records_pass;
 use table_watch::Sought;

@@ -1,3 +1,2 @@
 pub mod RecordsPass
 pub mod IndexPass
-pub mod EntriesPass

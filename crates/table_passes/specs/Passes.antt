@@ -1,6 +1,6 @@
--- What the passes of `well_formed` compute, each as its loop goes. They stand here because the contracts of the passes
--- cite them. A reader need not believe them: crate `table_check`, proofs/Passes.antt, shows that together they are
--- `tableLegal`.
+-- What the passes over the records and the index compute, each as its loop goes. They stand here because the contracts of
+-- the passes cite them. A reader need not believe them: crate `table_check`, proofs/Passes.antt, shows that together with
+-- the pass over the entries they are `tableLegal`.
 use mathlib.Core.Path.{_≡_}
 use mathlib.Core.List.{List, [], _∷_}
 use mathlib.Core.Bool.{Bool, true, _&&_}
@@ -8,10 +8,8 @@ use Prim.Native.Nat.{ℕ, _+_, _*_, _<_}
 use lib.Dec.{eqb, leb, ltb}
 use lib.ListN.{getD, set}
 use Rattle.config.specs.Limits.{recordWords}
-use Rattle.table.specs.declared.Entry.{Entry}
 use Rattle.table.specs.declared.TemplateRecord.{TemplateRecord}
 use Rattle.table.specs.Layout.{word}
-use Rattle.table.specs.Passes.{heldLen, lessAt}
 
 -- a record by itself, where its label was allowed `was` entries before
 unfoldable pub recordFresh : ℕ → ℕ → TemplateRecord → Bool
@@ -37,14 +35,3 @@ pub record Allowed (cap many : ℕ) (rs : List TemplateRecord) (allow allow′ :
 -- k records from word p on have keys that are ids
 abbrev pub KeysSmall : List ℕ → ℕ → ℕ → Type 0
 KeysSmall w p k = (i : ℕ) → i < k → word w (p + recordWords * i) < 65536
-
--- an entry by itself, where the bodies before it end at `end`
-unfoldable pub entryFits : ℕ → ℕ → ℕ → Entry → Bool
-entryFits size most end e = leb (e .len) size && (leb end (e .place) && leb (e .place + e .len) most)
-
--- each entry takes one of its label's allowance and fits; the held lengths, with `held`, come to `total`
-unfoldable pub entriesPass : ℕ → ℕ → ℕ → ℕ → ℕ → List ℕ → ℕ → List Entry → Bool
-entriesPass size most out total end allow held [] = eqb held total
-entriesPass size most out total end allow held (e ∷ es) =
-    ltb (e .label) 1024 && (ltb 0 (getD allow (e .label) 0) && (entryFits size most end e && entriesPass size most out
-    total (e .place + e .len) (lessAt allow (e .label)) (held + heldLen out e) es))

@@ -1,7 +1,7 @@
 use borrow.Author.Needs.{needs}
 use Rattle.table.proofs.Labels.{handed-adds, held-adds}
-use Rattle.table_passes.proofs.held_len.Statement.{statement}
-use Rattle.table_passes.proofs.held_len.Tie as tie
+use Rattle.table_entry_test.proofs.held_len.Statement.{statement}
+use Rattle.table_entry_test.proofs.held_len.Tie as tie
 
 returns : tie.Need-returns
 returns c = search (handed-adds, needs)

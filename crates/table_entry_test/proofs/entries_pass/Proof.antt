@@ -1,11 +1,11 @@
 use borrow.Author.Needs.{needs}
 use borrow.Author.Tests.{not-true, not-false}
-use Rattle.table_passes.proofs.EntriesPass.{EntriesPassed, no-entry-passed, large-label, none-left, misplaced}
-use Rattle.table_passes.proofs.EntriesPass.{end-fits, held-fits, entry-passed, total-wrong, total-right}
+use Rattle.table_entry_test.proofs.EntriesPass.{EntriesPassed, no-entry-passed, large-label, none-left, misplaced}
+use Rattle.table_entry_test.proofs.EntriesPass.{end-fits, held-fits, entry-passed, total-wrong, total-right}
 use Rattle.table_watch.proofs.Watched.{Watched, none-watched, entry-watched, all-watched}
 use Rattle.table_watch.proofs.Verdicts.{damaged, shown}
-use Rattle.table_passes.proofs.entries_pass.Statement.{statement}
-use Rattle.table_passes.proofs.entries_pass.Tie as tie
+use Rattle.table_entry_test.proofs.entries_pass.Statement.{statement}
+use Rattle.table_entry_test.proofs.entries_pass.Tie as tie
 
 abbrev Inv-loop : tie.InvT-loop
 Inv-loop words allow₀ entries max-size max-total out total watch end₀ held₀ passed₀ entries-left₀ p₀ allow end held

@@ -1,7 +1,7 @@
 use borrow.Author.Needs.{needs}
-use Rattle.table_passes.proofs.EntriesPass.{too-long, overlaps, begins-past, end-decides}
-use Rattle.table_passes.proofs.entry_fits.Statement.{statement}
-use Rattle.table_passes.proofs.entry_fits.Tie as tie
+use Rattle.table_entry_test.proofs.EntriesPass.{too-long, overlaps, begins-past, end-decides}
+use Rattle.table_entry_test.proofs.entry_fits.Statement.{statement}
+use Rattle.table_entry_test.proofs.entry_fits.Tie as tie
 
 returns : tie.Need-returns
 returns c = search (too-long, needs)

@@ -13,7 +13,7 @@ use Rattle.table.specs.declared.Entry.{Entry}
 use Rattle.table.specs.Layout.{entriesAt}
 use Rattle.table.specs.Table.{entryAt, entriesFrom}
 use Rattle.table.specs.Passes.{heldLen, lessAt}
-use Rattle.table_passes.specs.Passes.{entryFits, entriesPass}
+use Rattle.table_entry_test.specs.EntriesPass.{entryFits, entriesPass}
 use Rattle.table.proofs.Words.{entries-first, entries-none}
 use Rattle.table.proofs.Labels.{adds-within}
 
