@@ -13,7 +13,9 @@ enum-told-2 : tie.Need-enum-told-2
 enum-told-2 c = search needs
 
 returns : tie.Need-returns
-returns c = search (opening-refused, needs)
+returns c =
+    let told : tie.After-enum-told2 = search needs in
+    opening-refused _ _ _ _ _ (told .enum-told2 .given .1) (told .before .before .validate-config .ensures)
 
 write-header-requires : tie.Need-write-header-requires
 write-header-requires c κs = search (header-fits, needs)
@@ -22,7 +24,10 @@ same-length : tie.Need-same-length
 same-length c = search needs
 
 returns-2 : tie.Need-returns-2
-returns-2 c = search (opening-done, needs)
+returns-2 c =
+    let known = c .before .before .before .before in
+    opening-done _ _ _ _ _ (known .enum-told .given .1) (known .before .before .validate-config .ensures)
+    (c .before .before .write-header .ensures)
 
 pub open-spec : {M : Type 1} → statement M
 open-spec =
