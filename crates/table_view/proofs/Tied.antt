@@ -3,7 +3,7 @@
 use mathlib.Core.Path.{_≡_, refl, sym, ap, _∙_}
 use mathlib.Core.Bool.{true, false, _||_}
 use mathlib.Core.List.{List, [], _∷_, _++_}
-use Prim.Native.Nat.{ℕ, _+_, _<_}
+use Prim.Native.Nat.{ℕ, _+_, _≤_, _<_}
 use native.Mathlib.Omega.{arith}
 use lib.Dec.{eqb}
 use lib.ListN.{length, take-append-drop}
@@ -81,9 +81,12 @@ entries-small rs es small known =
     (λ e h. label-says (λ k. k < 1024) (e .label) rs small h) es known
 
 -- what is no label has no entries
+pub none-past : (k : ℕ) (es : List Entry) → All (λ e. e .label < 1024) es → 1024 ≤ k → tally k es ≡ 0
+none-past k [] h past = refl
+none-past k (e ∷ es) h past = tally-later k e es (λ d. omega (arith, h .0)) ∙ none-past k es (h .1) past
+
 pub none-above : (es : List Entry) → All (λ e. e .label < 1024) es → tally 1024 es ≡ 0
-none-above [] h = refl
-none-above (e ∷ es) h = tally-later 1024 e es (λ d. omega (arith, h .0)) ∙ none-above es (h .1)
+none-above es h = none-past 1024 es h (omega arith)
 
 -- where no entry has the label a, nothing is apart
 pub apart-tied : {a : ℕ} {rs : List TemplateRecord} {es : List Entry} {is : List ℕ} → TiedApart a rs es is →

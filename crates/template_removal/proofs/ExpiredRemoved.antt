@@ -38,14 +38,13 @@ use Rattle.pending_flows.specs.declared.header.HeaderFigures.{HeaderFigures}
 use Rattle.pending_flows.specs.Header.{figuresAt}
 use Rattle.table_view.proofs.Removed.{label-counts, none-set}
 use Rattle.table_view.proofs.Summed.{lenMost}
-use Rattle.table_view.proofs.Tied.{entries-small}
+use Rattle.table_view.proofs.Tied.{entries-small, none-past}
 use Rattle.pending_calls.specs.Removal.{everything, unexpired, counted, countedBut, Removes}
 use Rattle.pending_calls.proofs.NoneRemoved.{entries-short}
 use Rattle.pending_calls.proofs.Removals.{removal-done, closed-apart}
 use Rattle.pending_calls.proofs.Removed.{TiedRows, rows-tied, few-templates, entries-below-records, records-within}
 use Rattle.template_removal.specs.declared.Taken.{Taken}
 use Rattle.template_removal.specs.Taking.{TakesLabel}
-use Rattle.template_removal.proofs.OthersStay.{none-past}
 use Rattle.template_removal.proofs.TakenLabels.{label-closes}
 
 module _ (w : List ℕ) (n : ℕ) (ok : wellFormed w n ≡ true) (ttl : Ttl) (now label : ℕ) where

@@ -19,6 +19,7 @@ use Rattle.table_entries.specs.declared.StayTest.{StayTest}
 use Rattle.table_entries.specs.Stays.{stays}
 use Rattle.table_entries.specs.Sweep.{swept}
 use Rattle.table_entries.proofs.LabelSums.{zeros}
+use Rattle.table_view.proofs.Tied.{none-past}
 use Rattle.entry_sweeps.specs.KeptBy.{keptBy, otherThan}
 use Rattle.entry_sweeps.proofs.KeptBy.{OthersPass, kept-others}
 
@@ -86,12 +87,6 @@ module _ (label : ℕ) where
             none = h .none;
           })))
 
-  -- what is no label has no entries
-  pub none-past : (es : List Entry) → All (λ e. e .label < 1024) es → 1024 ≤ label → tally label es ≡ 0
-  none-past [] small past = refl
-  none-past (e ∷ es) small past =
-      tally-later label e es (λ d. omega (arith, small .0)) ∙ none-past es (small .1) past
-
   pub label-swept : (q : StayTest) (n : ℕ) (es : List Entry) → All (λ e. stays q e ≡ true) es →
       All (λ e. e .label < 1024) es → tally label es ≤ n → swept q (set zeros label n) es ≡ keptBy (otherThan label) es
   label-swept q n es s small most =
@@ -108,4 +103,4 @@ module _ (label : ℕ) where
       by-size true e =
           let small-label : label < 1024 = ltb-true label 1024 e in
           omega (arith, getD-set-same zeros label n 0 (omega (arith, zeros-long)))
-      by-size false e = omega (arith, none-past es small (ltb-false label 1024 e))
+      by-size false e = omega (arith, none-past label es small (ltb-false label 1024 e))
