@@ -1,8 +1,8 @@
 //! One measured call on both sides, each time on the same content.
 
+use crate::by_hand;
 use crate::counts::counting;
 use crate::held::Held;
-use crate::least;
 use crate::lent::Lent;
 use crate::port;
 use crate::shape::{Call, NEW_ID, NOW, Shape, id_of};
@@ -314,7 +314,7 @@ impl Both {
         if call == Call::OfferPacks { 0 } else { (self.shape.bodies() - per) * ENTRY_WORDS }
     }
 
-    /// The bytes of both.
+    /// Of bodies and entries together, in bytes.
     pub fn moved(&self) -> usize {
         self.body_bytes_moved() + 8 * self.entry_words_moved()
     }
@@ -342,25 +342,25 @@ impl Both {
         (time, 1)
     }
 
-    /// The same work by hand, with the C library's `memmove`.
+    /// The entries and bodies brought to the same places by hand, with the C library's `memmove`.
     pub fn by_memmove(&mut self) -> Spent {
-        self.by_hand(least::by_memmove)
+        self.by_hand(by_hand::by_memmove)
     }
 
-    /// The same work by hand, with the instructions that the library is compiled to.
+    /// The same with 16-byte loads and stores, as the library has them.
     pub fn by_sse2(&mut self) -> Spent {
-        self.by_hand(least::by_sse2)
+        self.by_hand(by_hand::by_sse2)
     }
 
-    fn by_hand(&mut self, moves: least::Move) -> Spent {
+    fn by_hand(&mut self, moves: by_hand::Move) -> Spent {
         self.lent.restore();
         let shape = self.shape;
         let Lent { words, bytes, records_at, .. } = &mut self.lent;
-        (time_of(|| least::offer(&shape, words, *records_at, bytes, moves)).0, 1)
+        (time_of(|| by_hand::offer(&shape, words, *records_at, bytes, moves)).0, 1)
     }
 
     /// By hand the entries and bodies are left that the library leaves, but for those that it adds.
-    pub fn check_by_hand(&mut self, moves: least::Move) {
+    pub fn check_by_hand(&mut self, moves: by_hand::Move) {
         let content = (0..self.lent.bytes.len()).map(|at| (at * 31 % 251) as u8);
         let content: Vec<u8> = content.collect();
         self.lent.bytes.copy_from_slice(&content);
@@ -369,7 +369,7 @@ impl Both {
         self.lent.restore();
         self.lent.bytes.copy_from_slice(&content);
         let Lent { words, bytes, records_at, .. } = &mut self.lent;
-        let kept = least::offer(&self.shape, words, *records_at, bytes, moves);
+        let kept = by_hand::offer(&self.shape, words, *records_at, bytes, moves);
         let end = HEADER_WORDS + ENTRY_WORDS * kept;
         assert_eq!(our_words[10], kept as u64 + 1, "{:?}", self.shape);
         assert!(our_words[HEADER_WORDS..end] == words[HEADER_WORDS..end], "{:?}", self.shape);

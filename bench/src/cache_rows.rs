@@ -1,8 +1,8 @@
 //! The tables of the cache's calls.
 
 use crate::both::Both;
+use crate::by_hand;
 use crate::figures::{grouped, ratio, time};
-use crate::least;
 use crate::shape::{Call, Order, Shape};
 use crate::timing::{Budget, Taken, interleaved, median_of};
 use std::time::{Duration, Instant};
@@ -57,7 +57,7 @@ pub const TABLES: [Table; 22] = [
     table(Call::OfferNew, true, "offer to a new id, with a TTL", OFFER),
     table(Call::OfferFull, false, "offer refused with 20", OFFER),
     table(Call::OfferLong, false, "offer refused with 6", OFFER),
-    table(Call::OfferExpired, true, "offer to a held id whose bodies are expired", None),
+    table(Call::OfferExpired, true, "offer to a held id whose bodies are expired", OFFER),
     table(Call::OfferPrunes, true, "offer to a new id that prunes all bodies", None),
     table(Call::OfferEvicts, false, "offer to a new id that evicts a template", None),
     table(Call::Drain, false, "drain", DRAIN),
@@ -199,14 +199,15 @@ const MOVES: [(usize, usize, usize); 10] = [
 /// Lengths of bodies, and gaps that they are moved by: source and target overlap.
 const GAPS: [(usize, usize); 4] = [(1_500, 1), (1_500, 31), (1_500, 100), (64, 1)];
 
-/// Offers that move what others left, beside one memmove of the same bytes, the offer that moves
-/// nothing, and the same work by hand. Such large moves hang on what else uses the memory in that
+/// Offers that move what others left, beside a memmove of the same bytes, an offer that moves
+/// nothing, and the entries and bodies brought to the same places by hand. Such large moves hang on what else uses the memory in that
 /// moment, so the ratios are medians of those of the rounds.
 pub fn print_moves(budget: Budget) {
     println!("\n### Offers that move bodies or entries\n");
     println!(
         "| moved | templates | bodies | of bytes | gap | bytes moved | memmove | ours \
-         | ours / memmove | less the offer | by hand | by hand, SSE2 |"
+         | ours / memmove | (ours - offer) / memmove | by hand / memmove \
+         | by hand, SSE2 / memmove |"
     );
     println!("|---|---:|---:|---:|---:|---:|---:|---:|---:|---:|---:|---:|");
     for call in [Call::OfferPacks, Call::OfferEvictsBytes] {
@@ -223,17 +224,19 @@ pub fn print_moves(budget: Budget) {
     }
 }
 
-/// An offer that moves, and one to a cache of as many bodies that moves nothing.
+/// An offer that moves, and one of the same body to a cache of as many bodies that moves nothing.
 struct Moves {
     moving: Both,
     resting: Both,
 }
 
 fn print_move(budget: Budget, shape: Shape) {
-    let rests = Shape::new(Call::OfferHeld, shape.templates, shape.bodies(), false, shape.length);
+    let call = if shape.call == Call::OfferEvicts { Call::OfferNew } else { Call::OfferHeld };
+    let rests = Shape::new(call, shape.templates, shape.bodies(), false, shape.length);
+    let rests = Shape { offered: shape.offered, ..rests };
     let mut moves = Moves { moving: Both::new(shape), resting: Both::new(rests) };
-    moves.moving.check_by_hand(least::by_memmove);
-    moves.moving.check_by_hand(least::by_sse2);
+    moves.moving.check_by_hand(by_hand::by_memmove);
+    moves.moving.check_by_hand(by_hand::by_sse2);
     let taken = interleaved(
         budget,
         &mut moves,

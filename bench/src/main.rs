@@ -2,11 +2,11 @@
 
 mod both;
 mod budget_rows;
+mod by_hand;
 mod cache_rows;
 mod counts;
 mod figures;
 mod held;
-mod least;
 mod lent;
 mod port;
 mod preflight_rows;

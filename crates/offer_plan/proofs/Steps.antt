@@ -14,7 +14,6 @@ use Rattle.config.proofs.Lists.{All, all-both}
 use Rattle.table.specs.declared.Entry.{Entry}
 use Rattle.table.specs.declared.TemplateRecord.{TemplateRecord}
 use Rattle.table.specs.declared.RecordFound.{RecordFound}
-use Rattle.table.specs.declared.LabelFound.{LabelFound}
 use Rattle.table.specs.declared.LiveFigures.{LiveFigures}
 use Rattle.table.specs.Layout.{limitsOf, entriesAt, recordsAt}
 use Rattle.table.specs.Table.{tableOf, entriesFrom, recordsFrom, tally}

@@ -3,7 +3,7 @@
 use mathlib.Core.Path.{_≡_, sym, ap, _∙_}
 use mathlib.Core.Bool.{Bool, true, false, not, cond}
 use mathlib.Core.List.{List, [], _∷_, _++_}
-use Prim.Native.Nat.{ℕ, suc, _+_, _*_, _-_, _^_, _≤_, _<_}
+use Prim.Native.Nat.{ℕ, suc, _+_, _*_, _-_, _≤_, _<_}
 use native.Mathlib.Nat.{mod-eq-of-lt}
 use native.Mathlib.Omega.{arith}
 use lib.Dec.{ltb}
@@ -116,7 +116,7 @@ module _ (w b : List ℕ) (ok : wellFormed w (length b) ≡ true) where
       ∙ lens-total b held es (differ-front (λ r. r .label) held (tableOf w .handed) (rows .labels-differ)) within
 
   -- the bytes of a label's bodies, by its entries
-  pub label-bytes-read : (k : ℕ) → k < 1024 → liveFigures None 0 k es .bytes ≡ sumBodies size (bodiesAt b k es)
+  label-bytes-read : (k : ℕ) → k < 1024 → liveFigures None 0 k es .bytes ≡ sumBodies size (bodiesAt b k es)
   label-bytes-read k small =
       let lens : liveLens None 0 k es ≡ sumBodies size (bodiesAt b k es) =
       live-lens b None 0 k es within ∙ ap (sumBodies size) (keep-true (bodiesAt b k es)) in

@@ -92,7 +92,7 @@ pub record Decides (l : PendingFlowsConfig) (id : ℕ) (live : List ℕ) (rs : L
     pub first : r .first ≡ cond (r .all) (firstEvicted (l .«max_pending_flows») live rs) 1024
     pub none-expired : r .live ≡ true → liveAt live (labelOf id rs) ≡ countOf id rs
 
--- no template goes for its bytes, nothing is handed out, only the id's bodies may be expired, and none of them is
+-- no template goes for its bytes, nothing is handed out, only the id's bodies can go as expired, and none of them is
 pub record NothingGoes (evicted chance : ℕ) (d : Decision) : Type 0 where
   pub evicts-none : evicted ≡ 0
   pub hands-none : chance ≡ 0

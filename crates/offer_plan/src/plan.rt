@@ -100,7 +100,7 @@ fn others_fill(found: RecordFound, records: usize, most: usize) -> bool
     }
 }
 
-// How many bodies and bytes the first record has: all of them, as with no time to live none is expired.
+// How many bodies and bytes the first record has, expired ones too: they go after step 2.
 fn first_figures(words: &[u64], entries: usize, from: usize, records: usize) -> LiveFigures
     requires { ⌜ entriesAt + entryWords * entries ≤ length (now words) ⌝ }
     requires { ⌜ from + recordWords * records ≤ length (now words) ⌝ }
@@ -109,8 +109,8 @@ fn first_figures(words: &[u64], entries: usize, from: usize, records: usize) -> 
         (now (words .entry)) entriesAt entries) ⌝ }
 {
     let label = first_label(words, from, records);
-    let ttl = Ttl::None;
-    live_figures(words, entries, label, ttl, 0)
+    let no_ttl = Ttl::None;
+    live_figures(words, entries, label, no_ttl, 0)
 }
 
 // How many least recent templates go until a body of this length fits, by the bytes of each label.
@@ -280,8 +280,8 @@ fn decide(
     }
 }
 
-// Whether it is certain that no body goes: no template is evicted, nothing is handed out, only the id's bodies may be
-// expired, and none of them is.
+// Whether it is certain that no body goes: no template is evicted, nothing is handed out, only the id's bodies can go
+// as expired, and none of them is.
 fn nothing_goes(evicted: usize, chance: u64, decision: Decision) -> bool
     ensures { λ r. ⌜ (r ≡ true → NothingGoes evicted chance decision) ⌝ }
 {

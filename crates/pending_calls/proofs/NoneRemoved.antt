@@ -28,9 +28,12 @@ use Rattle.table_entries.specs.Sweep.{swept}
 use Rattle.table_entries.proofs.LabelSums.{length-summed, zeros}
 use Rattle.table_entries.proofs.Lengths.{lens-within}
 use Rattle.table_records.specs.Close.{Closes}
-use Rattle.table_records.specs.Take.{placeOf, cappedCount, TakesOff}
+use Rattle.table_records.specs.Take.{placeOf, cappedCount}
 use Rattle.table_records.proofs.Places.{place-has, place-absent}
-use Rattle.table_records.proofs.Taken.{LeftBut, taken-closes, none-closes}
+use Rattle.table_records.proofs.Taken.{LeftBut}
+use Rattle.table_promotion.specs.declared.taking.Taken.{Taken}
+use Rattle.table_promotion.specs.Taking.{TakesLabel}
+use Rattle.table_promotion.proofs.TakenLabels.{label-closes}
 use Rattle.pending_flows.specs.declared.header.HeaderFigures.{HeaderFigures}
 use Rattle.pending_flows.specs.Header.{figuresAt}
 use Rattle.table_view.proofs.Summed.{lenMost}
@@ -174,55 +177,60 @@ module _ (w : List ℕ) (n : ℕ) (ok : wellFormed w n ≡ true) where
             left : Kept
             left = record { entries = entryCount w; bytes = f .total }
 
-        -- no record has the label
-        pub none-apart : (at : ℕ) → at ≡ placeOf apart rs → k ≤ at →
-            Removes everything (recordsAt (limitsOf w)) (heldCount w + chanceCount w) (entryCount w) apart zeros w w
-            (record { entries = f .entries; bytes = f .total; records = k; apart = 0 })
-        none-apart at placed past =
-            let absent = place-absent apart rs (omega (arith, length-records w p k)) in
-            done-by w k 0
-            (none-closes kept apart p k w (rows .labels-differ) left-but (omega (arith, records-few))
-            (rows .index-right) (omega arith)) refl (by-size (ltb apart 1024) refl absent)
+        -- the record of the label tells how many bodies it has, where there is one
+        abbrev at : ℕ
+        at = placeOf apart rs
+
+        abbrev r : TemplateRecord
+        r = recordAt w (p + recordWords * at)
+
+        abbrev Counts : TemplateRecord → Type 0
+        Counts u = (u .label < 1024) × (u .count ≡ tally (u .label) es)
+
+        held-count : {bodies : ℕ} → at < k → bodies ≡ cappedCount (r .count) → bodies ≡ getD (counted es) apart 0
+        held-count held here =
+            let known : Counts r × (apart ≡ r .label) =
+            place-has Counts apart w p k
+            (all-both (λ u. u .label < 1024) (λ u. u .count ≡ tally (u .label) es) Counts (λ u a b. (a, b)) rs
+            (rows .labels-small) (rows .counts-right)) held in
+            let same : tally (r .label) es ≡ tally apart es = ap (λ (j : ℕ). tally j es) (sym (known .1)) in
+            omega (
+              arith,
+              known .0 .1,
+              known .0 .0,
+              known .1,
+              tally-most apart es,
+              length-entries w entriesAt (entryCount w),
+              few-bodies w n legal,
+              label-has apart (omega (arith, known .0 .0, known .1)),
+            )
+
+        none-count : k ≤ at → 0 ≡ getD (counted es) apart 0
+        none-count past = by-size (ltb apart 1024) refl
           where
-            by-size : (t : Bool) → ltb apart 1024 ≡ t → All (λ u. apart ≢ u .label) rs →
-                0 ≡ getD (counted es) apart 0
-            by-size true e absent =
+            absent : All (λ u. apart ≢ u .label) rs
+            absent = place-absent apart rs (omega (arith, length-records w p k))
+
+            by-size : (t : Bool) → ltb apart 1024 ≡ t → 0 ≡ getD (counted es) apart 0
+            by-size true e =
                 sym (label-has apart (ltb-true apart 1024 e) ∙ absent-tally apart rs es absent (rows .labels-known))
-            by-size false e absent =
+            by-size false e =
                 let long : length (replicate {A = ℕ} 1024 0) ≡ 1024 = length-replicate {A = ℕ} 1024 0 in
                 sym (List·getD-eq-default (counted es) 0 {n = apart}
                 (omega (arith, ltb-false apart 1024 e, length-summed everything false zeros es)))
 
-        -- one has it, and is taken off
-        abbrev r : TemplateRecord
-        r = recordAt w (p + recordWords * placeOf apart rs)
+        module _ {w′ : List ℕ} {a : Taken} (taken : TakesLabel apart p k w w′ a) where
+          count : a .bodies ≡ getD (counted es) apart 0
+          count = by-place (ltb at k) refl
+            where
+              by-place : (t : Bool) → ltb at k ≡ t → a .bodies ≡ getD (counted es) apart 0
+              by-place true e = let held = ltb-true at k e in held-count held (taken .one held .0 .counted)
+              by-place false e = let past = ltb-false at k e in taken .none past .2 ∙ none-count past
 
-        pub one-apart : (at bodies : ℕ) (w′ : List ℕ) → at ≡ placeOf apart rs → at < k →
-            TakesOff p k at w w′ bodies → length w′ ≡ length w →
-            Removes everything (recordsAt (limitsOf w)) (heldCount w + chanceCount w) (entryCount w) apart zeros w w′
-            (record { entries = f .entries; bytes = f .total; records = k - 1; apart = bodies })
-        one-apart at bodies w′ placed held taken long =
-            done-by w′ (k - 1) bodies (taken-closes kept apart p k w (rows .labels-differ) left-but at bodies w′ placed
-            taken) long count
-          where
-            known : ((r .label < 1024) × (r .count ≡ tally (r .label) es)) × (apart ≡ r .label)
-            known =
-                place-has (λ u. (u .label < 1024) × (u .count ≡ tally (u .label) es)) apart w p k
-                (all-both (λ u. u .label < 1024) (λ u. u .count ≡ tally (u .label) es) _ (λ u a b. (a, b)) rs
-                (rows .labels-small) (rows .counts-right)) (omega arith)
-
-            count : bodies ≡ getD (counted es) apart 0
-            count =
-                let here : bodies ≡ cappedCount (r .count) =
-                taken .counted ∙ ap (λ (i : ℕ). cappedCount (recordAt w (p + recordWords * i) .count)) placed in
-                let same : tally (r .label) es ≡ tally apart es = ap (λ (j : ℕ). tally j es) (sym (known .1)) in
-                omega (
-                  arith,
-                  known .0 .1,
-                  known .0 .0,
-                  known .1,
-                  tally-most apart es,
-                  length-entries w entriesAt (entryCount w),
-                  few-bodies w n legal,
-                  label-has apart (omega (arith, known .0 .0, known .1)),
-                )
+          pub none-removed : length w′ ≡ length w →
+              Removes everything (recordsAt (limitsOf w)) (heldCount w + chanceCount w) (entryCount w) apart zeros w w′
+              (record { entries = f .entries; bytes = f .total; records = a .records; apart = a .bodies })
+          none-removed long =
+              done-by w′ (a .records) (a .bodies)
+              (label-closes apart p k w (rows .labels-differ) left-but (omega (arith, records-few)) (rows .index-right)
+              taken) long count

@@ -20,8 +20,7 @@ use table_entries::Kept;
 use table_entries::StayTest;
 use table_entries::sums_by_label;
 use table_entries::sweep;
-use table_promotion::place_of;
-use table_promotion::take_off;
+use table_promotion::take_record;
 use table_records::count_whole;
 use table_records::set_sum;
 use table_records::sum_of;
@@ -175,22 +174,11 @@ pub fn remove_none(
 {
     let from = records_at(limits);
     let records = (figures.templates + figures.chance) as usize;
-    let entries = figures.entries as usize;
-    let at = place_of(words, from, records, apart);
-    if records <= at {
-        return Removed {
-            entries,
-            bytes: figures.total,
-            records,
-            apart: 0,
-        };
-    }
-    let bodies = take_off(words, from, records, at);
-    let remain = records - 1;
+    let taken = take_record(words, from, records, apart);
     Removed {
-        entries,
+        entries: figures.entries as usize,
         bytes: figures.total,
-        records: remain,
-        apart: bodies,
+        records: taken.records,
+        apart: taken.bodies,
     }
 }

@@ -1,4 +1,4 @@
-// The pending flow cache in lent areas (pending_flows.rs): its header, opening, and the count of a chance.
+// The pending flow cache in lent areas (pending_flows.rs): its header, opening, and how many bodies a chance is for.
 mod chance;
 mod header;
 mod opening;

@@ -34,7 +34,7 @@ unfoldable pub acceptsWith : PendingFlowsConfig → ℕ → ℕ → Bool
 acceptsWith l len live =
     leb len (l .«max_entry_size_bytes») && (leb len (l .«max_total_bytes») && ltb live (l .«max_entries_per_template»))
 
--- of the figures
+-- the figures, as the model has them
 abbrev pub figuresRecord : CacheFigures → Figures
 figuresRecord f = record {
   templates = f .templates;
@@ -45,6 +45,7 @@ figuresRecord f = record {
   handed = f .handed;
 }
 
+-- document 01's answer of each case of `take_figures`
 abbrev pub figuresAnswer : FiguresAnswer → Answer
 figuresAnswer (Figured.At f) = tells (figuresRecord f)
 figuresAnswer Figured.Damaged = number 28

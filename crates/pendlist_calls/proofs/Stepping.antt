@@ -5,7 +5,6 @@ use mathlib.Core.List.{List}
 use mathlib.Core.Option.{Option, none, some}
 use Prim.Native.Nat.{ℕ}
 use native.Mathlib.Omega.{arith}
-use lib.ListN.{length}
 use Rattle.config.specs.declared.PendingFlowsConfig.{PendingFlowsConfig}
 use Rattle.config.specs.declared.ConfigAnswer.{ConfigAnswer}
 use Rattle.config.specs.declared.ConfigAnswer.the-variants as Config
@@ -20,9 +19,9 @@ use Rattle.cache_model.specs.Cache.{Cache, Figures, Answer, number, tells, Outc
 use Rattle.cache_model.specs.Offer.{offered}
 use Rattle.cache_model.specs.Calls.{drained}
 use Rattle.cache_model.specs.Queries.{figures}
-use Rattle.cache_model.specs.Reply.{Reply, called}
+use Rattle.cache_model.specs.Reply.{called}
 use Rattle.pending_flows.specs.View.{Areas, view}
-use Rattle.pending_flows.specs.Opening.{Opens, openingIn}
+use Rattle.pending_flows.specs.Opening.{Opens}
 use Rattle.pending_queries.specs.Queries.{asked, figuresRecord, figuresAnswer}
 use Rattle.pending_queries.specs.declared.CacheFigures.{CacheFigures}
 use Rattle.pending_queries.specs.declared.FiguresAnswer.{FiguresAnswer}

@@ -43,7 +43,7 @@ first-skipped (r ∷ rs) = refl
 
 module _ (w : List ℕ) (plan : OfferPlan) {f : HeaderFigures} {l : PendingFlowsConfig} (figures : f ≡ figuresAt w)
     (limits : l ≡ limitsOf w) where
-  -- what is no label is not told of
+  -- what is no label is of no template
   pub none-alone : (r : ℕ) → 1024 ≤ r → r < 1024 → GoesAlone w plan r
   none-alone r past small = absurd (omega arith)
 
@@ -101,7 +101,7 @@ alone-removed w b ok clock apart label plan alone small done =
     let goes = alone small in
     whole-planned w b ok clock apart plan refl (goes .no-ttl) (sym (goes .skips)) done
 
--- whether only those go
+-- whether nothing goes but expired bodies of the id
 module _ (f : HeaderFigures) (plan : OfferPlan) (apart : ℕ) where
   pub not-certain : (false ≡ true → OnlyExpired f plan apart)
   not-certain e = absurd (false≢true e)

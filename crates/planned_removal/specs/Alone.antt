@@ -16,7 +16,7 @@ pub record GoesAlone (w : List ℕ) (plan : OfferPlan) (label : ℕ) : Type 0 wh
   pub no-ttl : limitsOf w .ttl ≡ None
   pub skips : skipOf w plan ≡ set (replicate 1024 0) label skipAll
 
--- nothing is handed out, no template is evicted, and bodies of one label alone may be expired
+-- nothing is handed out, no template is evicted, and only expired bodies of this label go
 pub record OnlyExpired (f : HeaderFigures) (plan : OfferPlan) (label : ℕ) : Type 0 where
   pub hands-none : f .chance ≡ 0
   pub evicts-none : plan .evicted ≡ 0

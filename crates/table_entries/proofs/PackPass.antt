@@ -19,7 +19,6 @@ use Rattle.table_entries.specs.declared.pack.Run.{Run}
 use Rattle.table_entries.specs.Pack.{packedEntries, packedEnd, packedBytes, ReachesTo, Packs}
 use Rattle.table_entries.proofs.Frames.{entries-below, entries-above, entries-more}
 use Rattle.table_entries.proofs.Packed.{placedAt}
-use Rattle.table_entries.proofs.Lengths.{placed-lower}
 
 -- an entry's place, stored
 place-stored : (w : List ℕ) (p at : ℕ) → p + entryWords ≤ length w →
@@ -31,12 +30,6 @@ place-stored w p at room =
       getD-set-other w (p + 1) (p + 2) at 0 (λ d. omega arith),
       getD-set-other w (p + 1) (p + 3) at 0 (λ d. omega arith),
     )
-
--- a run that goes on
-pub run-goes-on : (place : ℕ) (run : Run) (b : List ℕ) → run .to ≤ run .from → run .from + run .len ≡ place →
-    ReachesTo place run b b run
-run-goes-on place run b down here =
-    record { reaches = here; behind = refl; down = down; bytes = refl; length-same = refl }
 
 -- a run that is moved, and the next one
 pub run-moved : (place : ℕ) (run : Run) (b b′ : List ℕ) → run .to ≤ run .from → run .from + run .len ≤ place →

@@ -3,5 +3,5 @@ mod adding;
 mod taking;
 
 pub use adding::add_record;
-pub use taking::place_of;
-pub use taking::take_off;
+pub use taking::Taken;
+pub use taking::take_record;

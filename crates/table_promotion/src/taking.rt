@@ -6,6 +6,7 @@ ghost use Rattle.config.specs.Limits.{recordWords};
 ghost use Rattle.table.specs.Table.{recordsFrom};
 ghost use Rattle.table_records.specs.Close.{nowhere};
 ghost use Rattle.table_records.specs.Take.{placeOf, positionsBut, TakesOff};
+ghost use Rattle.table_promotion.specs.Taking.{TakesLabel};
 ghost use Rattle.table_records.specs.Passes.{MovesUp, ClosesIndex};
 use config::RECORD_WORDS;
 use table::INDEX;
@@ -98,4 +99,27 @@ pub fn take_off(words: &mut [u64], from: usize, records: usize, at: usize) -> u3
     move_up(words, from, records, at);
     lower_index(words, from, records, at);
     capped_count(template.count)
+}
+
+// How many records are left, and how many bodies the one that went counted; 0 where none went.
+pub struct Taken {
+    pub records: usize,
+    pub bodies: u32,
+}
+
+// Takes the record of a label off, where there is one.
+pub fn take_record(words: &mut [u64], from: usize, records: usize, label: u64) -> Taken
+    requires { ⌜ from + recordWords * records ≤ length (now words) ⌝ }
+    ensures { λ r. ⌜ TakesLabel label from records (now (words .entry)) (now (words .exit)) r ⌝ }
+{
+    let at = place_of(words, from, records, label);
+    if records <= at {
+        return Taken { records, bodies: 0 };
+    }
+    let bodies = take_off(words, from, records, at);
+    let remain = records - 1;
+    Taken {
+        records: remain,
+        bodies,
+    }
 }

@@ -2,7 +2,7 @@
 -- is taken off, where there is one. Assumes nothing.
 use mathlib.Core.Path.{_≡_, refl, sym, ap, _∙_}
 use mathlib.Core.Bool.{Bool, true, false, cond}
-use mathlib.Core.List.{List, []}
+use mathlib.Core.List.{List}
 use Prim.Native.Nat.{ℕ, _+_, _*_, _-_, _^_, _≤_, _<_}
 use native.Mathlib.Omega.{arith}
 use lib.Dec.{eqb, ltb}
@@ -43,9 +43,9 @@ use Rattle.pending_calls.specs.Removal.{everything, unexpired, counted, counted
 use Rattle.pending_calls.proofs.NoneRemoved.{entries-short}
 use Rattle.pending_calls.proofs.Removals.{removal-done, closed-apart}
 use Rattle.pending_calls.proofs.Removed.{TiedRows, rows-tied, few-templates, entries-below-records, records-within}
-use Rattle.template_removal.specs.declared.Taken.{Taken}
-use Rattle.template_removal.specs.Taking.{TakesLabel}
-use Rattle.template_removal.proofs.TakenLabels.{label-closes}
+use Rattle.table_promotion.specs.declared.taking.Taken.{Taken}
+use Rattle.table_promotion.specs.Taking.{TakesLabel}
+use Rattle.table_promotion.proofs.TakenLabels.{label-closes}
 
 module _ (w : List ℕ) (n : ℕ) (ok : wellFormed w n ≡ true) (ttl : Ttl) (now label : ℕ) where
   legal : LegalWords w n
@@ -169,7 +169,7 @@ module _ (w : List ℕ) (n : ℕ) (ok : wellFormed w n ≡ true) (ttl : Ttl) (no
             let absent = place-absent label (recordsFrom w₁ p k) (omega (arith, length-records w₁ p k)) in
             t .none past .2 ∙ sym (absent-tally label rs es (rw same-records at absent) (rows .labels-known))
 
-    pub went-counted : entryCount w - left .entries ≤ a .bodies
+    went-counted : entryCount w - left .entries ≤ a .bodies
     went-counted =
         omega (
           arith,

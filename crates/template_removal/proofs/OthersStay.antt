@@ -24,7 +24,7 @@ use Rattle.entry_sweeps.specs.KeptBy.{keptBy, otherThan}
 use Rattle.entry_sweeps.proofs.KeptBy.{OthersPass, kept-others}
 
 module _ (label : ℕ) where
-  -- one entry and others
+  -- the first entry goes, or is kept
   own-first : (e : Entry) (es : List Entry) → label ≡ e .label → keptBy (otherThan label) (e ∷ es) ≡ keptBy (otherThan label) es
   unfolding keptBy
   own-first e es h = rw (eq-eqb label (e .label) h)

@@ -46,11 +46,11 @@ use Rattle.pending_calls.specs.Removal.{everything, counted, countedBut, Remove
 use Rattle.pending_calls.proofs.NoneRemoved.{entries-short}
 use Rattle.pending_calls.proofs.Removals.{removal-done, closed-apart}
 use Rattle.pending_calls.proofs.Removed.{TiedRows, rows-tied, few-templates, entries-below-records, records-within}
-use Rattle.template_removal.specs.declared.Taken.{Taken}
-use Rattle.template_removal.specs.Taking.{TakesLabel}
+use Rattle.table_promotion.specs.declared.taking.Taken.{Taken}
+use Rattle.table_promotion.specs.Taking.{TakesLabel}
 use Rattle.template_removal.proofs.ClosesTwice.{Emptied, index-between, closes-twice}
 use Rattle.template_removal.proofs.OthersStay.{none-of-own, all-of-others, label-swept}
-use Rattle.template_removal.proofs.TakenLabels.{label-closes}
+use Rattle.table_promotion.proofs.TakenLabels.{label-closes}
 
 module _ (w : List ℕ) (n : ℕ) (ok : wellFormed w n ≡ true) (label apart : ℕ) where
   legal : LegalWords w n

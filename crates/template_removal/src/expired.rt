@@ -7,13 +7,13 @@ ghost use Rattle.table.specs.Layout.{limitsOf, heldCount, entryCount, chanceCou
 ghost use Rattle.table.specs.WellFormed.{wellFormed};
 ghost use Rattle.pending_flows.specs.Header.{figuresAt};
 ghost use Rattle.pending_calls.specs.Removal.{unexpired, Removes};
-use super::take_label;
 use config::PendingFlowsConfig;
 use entry_sweeps::sweep_staying;
 use pending_calls::Removed;
 use pending_flows::HeaderFigures;
 use table::records_at;
 use table_entries::StayTest;
+use table_promotion::take_record;
 
 // Removes the expired bodies of a label. Its record goes though other bodies of it may stay: how many, is what it
 // counted less what went.
@@ -44,7 +44,7 @@ pub fn remove_expired_of(
         max_size: 18446744073709551615,
     };
     let left = sweep_staying(words, entries, test);
-    let taken = take_label(words, from, records, label);
+    let taken = take_record(words, from, records, label);
     let went = (entries - left.entries) as u32;
     let rest = taken.bodies - went;
     Removed {

@@ -3,46 +3,20 @@ mod expired;
 
 ghost use mathlib.Core.Path.{_≡_};
 ghost use mathlib.Core.Bool.{true};
-ghost use Prim.Native.Nat.{_+_, _*_, _≤_};
+ghost use Prim.Native.Nat.{_+_};
 ghost use lib.ListN.{length, set, replicate};
-ghost use Rattle.config.specs.Limits.{recordWords};
 ghost use Rattle.table.specs.Layout.{limitsOf, heldCount, entryCount, chanceCount, recordsAt};
 ghost use Rattle.table.specs.WellFormed.{wellFormed};
 ghost use Rattle.table_records.specs.Choose.{skipAll};
 ghost use Rattle.pending_flows.specs.Header.{figuresAt};
 ghost use Rattle.pending_calls.specs.Removal.{everything, Removes};
-ghost use Rattle.template_removal.specs.Taking.{TakesLabel};
 use config::PendingFlowsConfig;
 use entry_sweeps::sweep_label;
 pub use expired::remove_expired_of;
 use pending_calls::Removed;
 use pending_flows::HeaderFigures;
 use table::records_at;
-use table_promotion::place_of;
-use table_promotion::take_off;
-
-// How many records are left, and how many bodies the one that went counted; 0 where none went.
-struct Taken {
-    records: usize,
-    bodies: u32,
-}
-
-// Takes the record of a label off, where there is one.
-fn take_label(words: &mut [u64], from: usize, records: usize, label: u64) -> Taken
-    requires { ⌜ from + recordWords * records ≤ length (now words) ⌝ }
-    ensures { λ r. ⌜ TakesLabel label from records (now (words .entry)) (now (words .exit)) r ⌝ }
-{
-    let at = place_of(words, from, records, label);
-    if records <= at {
-        return Taken { records, bodies: 0 };
-    }
-    let bodies = take_off(words, from, records, at);
-    let remain = records - 1;
-    Taken {
-        records: remain,
-        bodies,
-    }
-}
+use table_promotion::take_record;
 
 // Removes the template of a label: its entries and its record. The record of the label `apart` goes though its bodies
 // stay.
@@ -64,8 +38,8 @@ pub fn remove_template(
     let from = records_at(limits);
     let records = (figures.templates + figures.chance) as usize;
     let left = sweep_label(words, figures.entries as usize, label);
-    let others = take_label(words, from, records, label);
-    let taken = take_label(words, from, others.records, apart);
+    let others = take_record(words, from, records, label);
+    let taken = take_record(words, from, others.records, apart);
     Removed {
         entries: left.entries,
         bytes: left.bytes,

@@ -3,9 +3,6 @@ use borrow.Author.Needs.{needs}
 use Rattle.pending_handed_out.proofs.HandedOut.{place-damaged, not-handed-out, handed-out-at}
 use Rattle.pending_handed_out.proofs.place_handed_out.Statement.{statement}
 use Rattle.pending_handed_out.proofs.place_handed_out.Tie as tie
-use Rattle.pending_handed_out.proofs.place_handed_out.Reads as reads
-use Rattle.pending_handed_out.proofs.place_handed_out.Lts as lts
-use Rattle.table_check.proofs.examine.Reads as examine-reads
 
 examine-requires : tie.Need-examine-requires
 examine-requires c κs = search needs

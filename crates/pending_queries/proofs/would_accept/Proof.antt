@@ -2,11 +2,6 @@ use borrow.Author.Needs.{needs}
 use Rattle.pending_queries.proofs.Answers.{asks, seen-damaged, header-seen, told-yes, told-no}
 use Rattle.pending_queries.proofs.would_accept.Statement.{statement}
 use Rattle.pending_queries.proofs.would_accept.Tie as tie
-use Rattle.pending_queries.proofs.would_accept.Reads as reads
-use Rattle.pending_queries.proofs.would_accept.Lts as lts
-use Rattle.pending_queries.proofs.accepts.Reads as accepts-reads
-use Rattle.table_check.proofs.examine.Reads as examine-reads
-use Rattle.table.proofs.limits_at.Reads as limits-at-reads
 
 examine-requires : tie.Need-examine-requires
 examine-requires c κs = search needs

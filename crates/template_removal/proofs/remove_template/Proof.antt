@@ -3,7 +3,7 @@ use native.Mathlib.Omega.{arith}
 use borrow.Author.Needs.{needs}
 use Rattle.pending_flows.proofs.Questions.{bodies-few}
 use Rattle.pending_calls.proofs.NoneRemoved.{records-fit, entries-below, records-inside}
-use Rattle.template_removal.proofs.TakenLabels.{taken-few}
+use Rattle.table_promotion.proofs.TakenLabels.{taken-few}
 use Rattle.template_removal.proofs.TemplateRemoved.{template-removed}
 use Rattle.template_removal.proofs.remove_template.Statement.{statement}
 use Rattle.template_removal.proofs.remove_template.Tie as tie
@@ -15,7 +15,7 @@ start-of read = read .before .before .before
 abbrev read-of : tie.After-sweep-label → tie.After-records-at
 read-of swept = swept .before .before .before
 
-abbrev swept-of : tie.After-take-label → tie.After-sweep-label
+abbrev swept-of : tie.After-take-record → tie.After-sweep-label
 swept-of taken = taken .before .before .before .before
 
 records-at-requires : tie.Need-records-at-requires
@@ -32,17 +32,17 @@ sweep-label-requires c κs =
     let inside = records-inside _ _ (start .pre .0 .0) _ (start .pre .1) _ (start .pre .0 .1) _ (read .records-at .ensures) in
     omega (arith, below, inside)
 
-take-label-requires : tie.Need-take-label-requires
-take-label-requires c κs =
+take-record-requires : tie.Need-take-record-requires
+take-record-requires c κs =
     let swept : tie.After-sweep-label = c .before .before .before in
     let read = read-of swept in
     let start = start-of read in
     let inside = records-inside _ _ (start .pre .0 .0) _ (start .pre .1) _ (start .pre .0 .1) _ (read .records-at .ensures) in
     omega (arith, inside, swept .sweep-label .kept .0)
 
-take-label-requires-2 : tie.Need-take-label-requires-2
-take-label-requires-2 c κs =
-    let taken : tie.After-take-label = c .before .before .before in
+take-record-requires-2 : tie.Need-take-record-requires-2
+take-record-requires-2 c κs =
+    let taken : tie.After-take-record = c .before .before .before in
     let swept = swept-of taken in
     let read = read-of swept in
     let start = start-of read in
@@ -51,8 +51,8 @@ take-label-requires-2 c κs =
       arith,
       inside,
       swept .sweep-label .kept .0,
-      taken .take-label .kept .0,
-      taken-few _ _ _ _ (taken .take-label .ensures),
+      taken .take-record .kept .0,
+      taken-few _ _ _ _ (taken .take-record .ensures),
     )
 
 same-length : tie.Need-same-length
@@ -60,14 +60,14 @@ same-length c = search needs
 
 returns : tie.Need-returns
 returns c =
-    let last : tie.After-take-label2 = c .before .before in
-    let taken : tie.After-take-label = last .before .before .before .before in
+    let last : tie.After-take-record2 = c .before .before in
+    let taken : tie.After-take-record = last .before .before .before .before in
     let swept = swept-of taken in
     let read = read-of swept in
     let start = start-of read in
     template-removed _ _ (start .pre .0 .0) _ _ (start .pre .1) (start .pre .0 .1) (read .records-at .ensures)
-    (swept .sweep-label .ensures) (taken .take-label .ensures) (last .take-label2 .ensures)
-    (last .take-label2 .kept .0 ∙ taken .take-label .kept .0 ∙ swept .sweep-label .kept .0)
+    (swept .sweep-label .ensures) (taken .take-record .ensures) (last .take-record2 .ensures)
+    (last .take-record2 .kept .0 ∙ taken .take-record .kept .0 ∙ swept .sweep-label .kept .0)
 
 pub remove-template-spec : {M : Type 1} → statement M
 remove-template-spec =
@@ -76,7 +76,7 @@ remove-template-spec =
     records-at-requires
     add-records
     sweep-label-requires
-    take-label-requires
-    take-label-requires-2
+    take-record-requires
+    take-record-requires-2
     same-length
     returns)

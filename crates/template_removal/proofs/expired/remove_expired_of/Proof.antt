@@ -14,7 +14,7 @@ start-of read = read .before .before .before
 abbrev read-of : tie.After-sweep-staying → tie.After-records-at
 read-of swept = swept .before .before .before
 
-abbrev swept-of : tie.After-take-label → tie.After-sweep-staying
+abbrev swept-of : tie.After-take-record → tie.After-sweep-staying
 swept-of taken = taken .before .before .before .before
 
 records-at-requires : tie.Need-records-at-requires
@@ -31,8 +31,8 @@ sweep-staying-requires c κs =
     let inside = records-inside _ _ (start .pre .0 .0) _ (start .pre .1) _ (start .pre .0 .1) _ (read .records-at .ensures) in
     omega (arith, below, inside)
 
-take-label-requires : tie.Need-take-label-requires
-take-label-requires c κs =
+take-record-requires : tie.Need-take-record-requires
+take-record-requires c κs =
     let swept : tie.After-sweep-staying = c .before .before .before in
     let read = read-of swept in
     let start = start-of read in
@@ -44,7 +44,7 @@ sub-went c = search needs
 
 cast-went : tie.Need-cast-went
 cast-went c =
-    let taken : tie.After-take-label = c .before .before .before in
+    let taken : tie.After-take-record = c .before .before .before in
     let swept = swept-of taken in
     let read = read-of swept in
     let start = start-of read in
@@ -55,25 +55,25 @@ cast-went c =
 
 sub-rest : tie.Need-sub-rest
 sub-rest c =
-    let taken : tie.After-take-label = c .before .before .before .before in
+    let taken : tie.After-take-record = c .before .before .before .before in
     let swept = swept-of taken in
     let read = read-of swept in
     let start = start-of read in
     went-of-label _ _ (start .pre .0 .0) _ _ (start .pre .1) (start .pre .0 .1) (read .records-at .ensures) refl
-    (swept .sweep-staying .ensures) (taken .take-label .ensures)
+    (swept .sweep-staying .ensures) (taken .take-record .ensures)
 
 same-length : tie.Need-same-length
 same-length c = search needs
 
 returns : tie.Need-returns
 returns c =
-    let taken : tie.After-take-label = c .before .before .before .before in
+    let taken : tie.After-take-record = c .before .before .before .before in
     let swept = swept-of taken in
     let read = read-of swept in
     let start = start-of read in
     expired-removed _ _ (start .pre .0 .0) _ _ (start .pre .1) (start .pre .0 .1) (read .records-at .ensures) refl
-    (swept .sweep-staying .ensures) (taken .take-label .ensures)
-    (taken .take-label .kept .0 ∙ swept .sweep-staying .kept .0)
+    (swept .sweep-staying .ensures) (taken .take-record .ensures)
+    (taken .take-record .kept .0 ∙ swept .sweep-staying .kept .0)
 
 pub remove-expired-of-spec : {M : Type 1} → statement M
 remove-expired-of-spec =
@@ -82,7 +82,7 @@ remove-expired-of-spec =
     records-at-requires
     add-records
     sweep-staying-requires
-    take-label-requires
+    take-record-requires
     sub-went
     cast-went
     sub-rest

@@ -1,8 +1,9 @@
-//! What an offer which evicts or packs must do in this layout, written by hand, with no test and no
-//! proof: read every live word once, as the test of 28 must, and bring the entries and
-//! the bodies to where the library leaves them. Bodies that lie side by side and move as far are
-//! moved at once, by the C library's `memmove` or by a loop of the instructions that the library is
-//! compiled to. The labels are the templates' numbers, and template 0 is the one that goes.
+//! Most of what an offer which evicts or packs does in this layout, by hand, with no test and no
+//! proof: every live word is read once, as the test of 28 must, and the entries and the bodies are
+//! brought to where the library leaves them. No record, header or new body is written. Bodies that
+//! lie side by side and move as far are moved at once, by the C library's `memmove` or by a loop of
+//! 16-byte loads and stores, which is what the library is compiled to. The labels are the
+//! templates' numbers, and template 0 is the one that goes.
 
 use crate::shape::{Call, Shape};
 use crate::sums;
@@ -111,8 +112,8 @@ pub fn by_sse2(bytes: &mut [u8], from: usize, to: usize, length: usize) {
     // SAFETY: the bodies lie within the bytes, and of each 64 bytes all are read before one is
     // written.
     unsafe {
-        let source = bytes.as_ptr().add(from);
-        let target = bytes.as_mut_ptr().add(to);
+        let base = bytes.as_mut_ptr();
+        let (source, target) = (base.add(from).cast_const(), base.add(to));
         let lead = target.align_offset(STEP).min(length);
         let mut done = 0;
         while done < lead {

@@ -4,7 +4,7 @@ use mathlib.Core.List.{List}
 use Prim.Native.Nat.{ℕ, _-_, _≤_, _<_}
 use Rattle.table.specs.Table.{recordsFrom}
 use Rattle.table_records.specs.Take.{placeOf, TakesOff}
-use Rattle.template_removal.specs.declared.Taken.{Taken}
+use Rattle.table_promotion.specs.declared.taking.Taken.{Taken}
 
 -- Of k records from word p on, none has the label, and no word changes; or the first that has it is taken off.
 pub record TakesLabel (label p k : ℕ) (w w′ : List ℕ) (r : Taken) : Type 0 where

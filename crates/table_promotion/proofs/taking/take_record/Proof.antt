@@ -1,7 +1,7 @@
 use borrow.Author.Needs.{needs}
-use Rattle.template_removal.proofs.TakenLabels.{none-taken, one-taken}
-use Rattle.template_removal.proofs.take_label.Statement.{statement}
-use Rattle.template_removal.proofs.take_label.Tie as tie
+use Rattle.table_promotion.proofs.TakenLabels.{none-taken, one-taken}
+use Rattle.table_promotion.proofs.taking.take_record.Statement.{statement}
+use Rattle.table_promotion.proofs.taking.take_record.Tie as tie
 
 place-of-requires : tie.Need-place-of-requires
 place-of-requires c κs = search needs
@@ -24,8 +24,8 @@ same-length-2 c = search needs
 returns-2 : tie.Need-returns-2
 returns-2 c = search (one-taken, needs)
 
-pub take-label-spec : {M : Type 1} → statement M
-take-label-spec =
+pub take-record-spec : {M : Type 1} → statement M
+take-record-spec =
     tie.close
     (tie.spec
     place-of-requires

@@ -15,8 +15,8 @@ use Rattle.table.proofs.Facts.{Differ}
 use Rattle.table_records.specs.Close.{nowhere, Closes}
 use Rattle.table_records.specs.Take.{placeOf, TakesOff}
 use Rattle.table_records.proofs.Taken.{LeftBut, taken-closes, none-closes}
-use Rattle.template_removal.specs.declared.Taken.{Taken}
-use Rattle.template_removal.specs.Taking.{TakesLabel}
+use Rattle.table_promotion.specs.declared.taking.Taken.{Taken}
+use Rattle.table_promotion.specs.Taking.{TakesLabel}
 
 module _ (label p k : ℕ) (w : List ℕ) where
   abbrev rs : List TemplateRecord
