@@ -183,7 +183,7 @@ fn print_row(budget: Budget, shape: Shape) -> f64 {
 }
 
 /// Templates, bodies and their length: large bodies, small ones, and many.
-const MOVES: [(usize, usize, usize); 12] = [
+const MOVES: [(usize, usize, usize); 14] = [
     (16, 1_008, 65_531),
     (1_024, 1_024, 65_000),
     (16, 44_000, 1_500),
@@ -194,7 +194,9 @@ const MOVES: [(usize, usize, usize); 12] = [
     (16, 262_144, 128),
     (16, 4_096, 64),
     (16, 4_096, 1_500),
+    (16, 256, 65_000),
     (16, 256, 1_500),
+    (16, 16, 65_000),
     (16, 16, 1_500),
 ];
 
