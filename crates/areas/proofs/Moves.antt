@@ -6,9 +6,10 @@ use native.Mathlib.Nat.{add-zero, add-suc, suc-add}
 use native.Mathlib.Numerals.{add-one}
 use native.Mathlib.Omega.{arith}
 use lib.ListN.{length, getD, take, drop, set, length-set, length-drop}
-use lib.Seq.{length-take-le, getD-take, getD-drop, take-suc, drop-cons, append-snoc, set-at}
+use lib.Seq.{length-take-le, take-at, getD-take, getD-drop, take-suc, drop-cons, append-snoc, set-at}
 use lib.Seq.{paste, paste-zero, paste-suc, take-paste, take-add, drop-drop}
-use Rattle.areas.specs.Overwrite.{putAt, moved}
+use borrow.Rule.Slice.PartMut.{midOf}
+use Rattle.areas.specs.Overwrite.{overwritten, putAt, moved}
 use Rattle.areas.proofs.Puts.{drop-more, length-part, length-put, put-there, take-put, drop-put}
 
 first-of-drop : (j : ℕ) (l : List ℕ) → getD (drop j l) 0 0 ≡ getD l j 0
@@ -115,6 +116,19 @@ module _ (from to len k : ℕ) (area area₁ area₂ : List ℕ) (first : area�
       ∙ moved-on from to k (len - k) area down (omega arith)
       ∙ rw whole
 
+-- a block that is read whole into a longer array, and then written
+module _ (from to len : ℕ) (area zeros block : List ℕ) (source : from + len ≤ length area)
+    (read : block ≡ overwritten zeros (midOf from (from + len - from) area)) where
+  block-holds : take len block ≡ take len (drop from area)
+  unfolding overwritten
+  block-holds =
+      let all : from + len - from ≡ len = omega arith in
+      rw (read, all) (take-at (take len (drop from area)) _ len (length-part from len area source))
+
+  pub block-moved : (area′ : List ℕ) → area′ ≡ putAt to (take len block) area → area′ ≡ moved from to len area
+  block-moved area′ written =
+      written ∙ ap (λ (ys : List ℕ). putAt to ys area) block-holds ∙ sym (moved-puts from to len area source)
+
 -- The loop from the front: the first `done` elements are moved.
 pub record MovedDown (area₀ : List ℕ) (from to len : ℕ) (area : List ℕ) (done : ℕ) : Type 0 where
   pub passed : done ≤ len
@@ -167,6 +181,26 @@ module _ {area₀ area : List ℕ} {from to len done : ℕ} (inv : MovedDown are
     now-is =
         rw (inv .now-is, add-one, read-down h) (moved-suc from to done area₀ (omega arith) (omega arith));
   }
+
+  -- so many at once
+  pub more-moved-down : (k : ℕ) (area′ : List ℕ) → k < len - done →
+      area′ ≡ moved (from + done) (to + done) k area → MovedDown area₀ from to len area′ (done + k)
+  more-moved-down k area′ h e = record {
+    passed = omega arith;
+    downwards = inv .downwards;
+    source = inv .source;
+    same-length =
+        ap length e ∙ length-moved (from + done) (to + done) k area (omega (arith, inv)) (omega (arith, inv))
+        ∙ inv .same-length;
+    now-is =
+        e ∙ ap (moved (from + done) (to + done) k) (inv .now-is)
+        ∙ moved-on from to done k area₀ (inv .downwards) (omega (arith, inv));
+  }
+
+  pub rest-moved-down : (area′ : List ℕ) → area′ ≡ moved (from + done) (to + done) (len - done) area →
+      area′ ≡ moved from to len area₀
+  rest-moved-down area′ e =
+      parts-make-whole from to len done area₀ area area′ (inv .now-is) (inv .downwards) (inv .source) (inv .passed) e
 
   pub all-moved-down : len ≤ done → area ≡ moved from to len area₀
   all-moved-down h = let z : done ≡ len = omega arith in inv .now-is ∙ rw z

@@ -4,7 +4,7 @@ mod bytes;
 mod words;
 
 pub use bytes::copy_bytes;
-pub use bytes::move_bytes;
+pub use bytes::move_bytes_down;
 pub use bytes::write_body;
 pub use words::copy_words;
 pub use words::move_words;

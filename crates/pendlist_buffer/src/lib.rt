@@ -5,7 +5,7 @@ ghost use lib.ListN.{length, take};
 ghost use Rattle.pending_flows.specs.View.{areasOf};
 ghost use Rattle.pendlist_texts.specs.Lists.{RunsText};
 ghost use Rattle.pendlist_buffer.specs.Buffer.{TakesTurn};
-use areas::move_bytes;
+use areas::move_bytes_down;
 use pendlist_texts::TextDone;
 use pendlist_texts::run_text;
 use pendlist_turns::bytes_ready;
@@ -58,7 +58,7 @@ pub fn take_turn(
     let ready = bytes_ready(buffer, kept, n);
     let done = run_front(words, bytes, buffer, ready, opened, out);
     let left = n - ready;
-    move_bytes(buffer, ready, 0, left);
+    move_bytes_down(buffer, ready, 0, left);
     Turn {
         kept: left,
         opened: done.opened,

@@ -8,7 +8,7 @@ ghost use Rattle.table.specs.Layout.{entriesAt};
 ghost use Rattle.table.specs.Table.{entriesFrom};
 ghost use Rattle.table.specs.WellFormed.{placesLegal};
 ghost use Rattle.table_entries.specs.Pack.{lastEnd, ReachesTo, Packs};
-use areas::move_bytes;
+use areas::move_bytes_down;
 use config::ENTRY_WORDS;
 use config::HEADER_WORDS;
 use table::entry_at;
@@ -45,7 +45,7 @@ fn run_up_to(bytes: &mut [u8], run: Run, place: usize) -> Run
     if run.from + run.len == place {
         return run;
     }
-    move_bytes(bytes, run.from, run.to, run.len);
+    move_bytes_down(bytes, run.from, run.to, run.len);
     Run {
         from: place,
         to: run.to + run.len,
@@ -75,6 +75,6 @@ pub fn pack_bodies(words: &mut [u64], bytes: &mut [u8], entries: usize) -> usize
         left -= 1;
         p += ENTRY_WORDS;
     }
-    move_bytes(bytes, run.from, run.to, run.len);
+    move_bytes_down(bytes, run.from, run.to, run.len);
     run.to + run.len
 }

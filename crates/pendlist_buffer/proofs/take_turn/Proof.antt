@@ -12,8 +12,8 @@ run-front-requires c κs = search needs
 sub-left : tie.Need-sub-left
 sub-left c = search needs
 
-move-bytes-requires : tie.Need-move-bytes-requires
-move-bytes-requires c κs = search needs
+move-bytes-down-requires : tie.Need-move-bytes-down-requires
+move-bytes-down-requires c κs = search needs
 
 same-length : tie.Need-same-length
 same-length c = search needs
@@ -29,12 +29,12 @@ same-length-4 c = search needs
 
 returns : tie.Need-returns
 returns c =
-    let moved : tie.After-move-bytes = search needs in
+    let moved : tie.After-move-bytes-down = search needs in
     let run : tie.After-run-front = search needs in
     let counted : tie.After-bytes-ready = search needs in
     let start : tie.Start = search needs in
     turn-taken _ _ _ _ (start .pre .0) (start .pre .1) (counted .bytes-ready .ensures) (run .run-front .ensures)
-    (moved .move-bytes .ensures)
+    (moved .move-bytes-down .ensures)
 
 pub take-turn-spec : {M : Type 1} → statement M
 take-turn-spec =
@@ -43,7 +43,7 @@ take-turn-spec =
     bytes-ready-requires
     run-front-requires
     sub-left
-    move-bytes-requires
+    move-bytes-down-requires
     same-length
     same-length-2
     same-length-3

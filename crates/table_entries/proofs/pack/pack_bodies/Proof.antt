@@ -48,8 +48,8 @@ loop-less c = search needs
 loop-again : tie.Need-loop-again Inv-loop μ-loop
 loop-again c = search (entry-packed, needs)
 
-move-bytes-requires : tie.Need-move-bytes-requires Inv-loop μ-loop
-move-bytes-requires c κs = search (target-within, needs)
+move-bytes-down-requires : tie.Need-move-bytes-down-requires Inv-loop μ-loop
+move-bytes-down-requires c κs = search (target-within, needs)
 
 add-result : tie.Need-add-result Inv-loop μ-loop
 add-result c = search (target-within, needs)
@@ -81,7 +81,7 @@ pack-bodies-spec =
     add-p
     loop-less
     loop-again
-    move-bytes-requires
+    move-bytes-down-requires
     add-result
     same-length
     same-length-2

@@ -9,8 +9,8 @@ add-if1 c = search needs
 returns : tie.Need-returns
 returns c = search needs
 
-move-bytes-requires : tie.Need-move-bytes-requires
-move-bytes-requires c κs = search needs
+move-bytes-down-requires : tie.Need-move-bytes-down-requires
+move-bytes-down-requires c κs = search needs
 
 add-t4 : tie.Need-add-t4
 add-t4 c = search needs
@@ -23,4 +23,4 @@ returns-2 c = search (run-moved, needs)
 
 pub run-up-to-spec : {M : Type 1} → statement M
 run-up-to-spec =
-    tie.close (tie.spec add-if1 returns move-bytes-requires add-t4 same-length returns-2)
+    tie.close (tie.spec add-if1 returns move-bytes-down-requires add-t4 same-length returns-2)
