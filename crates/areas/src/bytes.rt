@@ -4,8 +4,9 @@ ghost use Prim.Native.Nat.{_+_, _≤_};
 ghost use lib.ListN.{length};
 ghost use Rattle.areas.specs.Overwrite.{moved, overwritten, putAt};
 
-// So many bytes are read before the first of them is written.
-const BLOCK: usize = 4096;
+// So many bytes are read before the first of them is written. Much longer blocks the C library moves by an instruction
+// that some processors are slow at (docs/BENCHMARKS.md).
+const BLOCK: usize = 512;
 
 // Copies all of `from` to the front of `to`.
 pub fn copy_bytes(to: &mut [u8], from: &[u8])
@@ -31,7 +32,7 @@ pub fn write_body(area: &mut [u8], at: usize, body: &[u8])
 // Moves a block or less. All of it is read before the first byte is written, so source and target may overlap; and the
 // compiler makes one call of the C library's `memmove` of both copies, with no array (docs/DECISIONS.md).
 fn move_block(area: &mut [u8], from: usize, to: usize, len: usize)
-    requires { ⌜ (from + len ≤ length (now area)) × (to + len ≤ length (now area)) × (len ≤ 4096) ⌝ }
+    requires { ⌜ (from + len ≤ length (now area)) × (to + len ≤ length (now area)) × (len ≤ 512) ⌝ }
     ensures { λ _. ⌜ now (area .exit) ≡ moved from to len (now (area .entry)) ⌝ }
 {
     let mut block: [u8; BLOCK] = [0; BLOCK];
