@@ -1,12 +1,17 @@
 // Copying into the byte area, and moving within it.
 ghost use mathlib.Core.Path.{_≡_};
-ghost use Prim.Native.Nat.{_+_, _≤_};
+ghost use Prim.Native.Nat.{_+_, _≤_, _<_};
 ghost use lib.ListN.{length};
 ghost use Rattle.areas.specs.Overwrite.{moved, overwritten, putAt};
 
-// So many bytes are read before the first of them is written. Much longer blocks the C library moves by an instruction
-// that some processors are slow at (docs/BENCHMARKS.md).
-const BLOCK: usize = 512;
+// The most bytes that are read before the first of them is written.
+const BLOCK: usize = 2048;
+
+// Fewer are quicker in an area that is longer than this, and most of all where source and target lie nearly a page
+// apart (docs/BENCHMARKS.md).
+const LONG_AREA: usize = 524288;
+
+const SHORT_BLOCK: usize = 512;
 
 // Copies all of `from` to the front of `to`.
 pub fn copy_bytes(to: &mut [u8], from: &[u8])
@@ -32,7 +37,7 @@ pub fn write_body(area: &mut [u8], at: usize, body: &[u8])
 // Moves a block or less. All of it is read before the first byte is written, so source and target may overlap; and the
 // compiler makes one call of the C library's `memmove` of both copies, with no array (docs/DECISIONS.md).
 fn move_block(area: &mut [u8], from: usize, to: usize, len: usize)
-    requires { ⌜ (from + len ≤ length (now area)) × (to + len ≤ length (now area)) × (len ≤ 512) ⌝ }
+    requires { ⌜ (from + len ≤ length (now area)) × (to + len ≤ length (now area)) × (len ≤ 2048) ⌝ }
     ensures { λ _. ⌜ now (area .exit) ≡ moved from to len (now (area .entry)) ⌝ }
 {
     let mut block: [u8; BLOCK] = [0; BLOCK];
@@ -41,16 +46,27 @@ fn move_block(area: &mut [u8], from: usize, to: usize, len: usize)
     write_body(area, to, &block[..len]);
 }
 
+// How many bytes a move within an area of so many reads at once.
+fn block_in(area: usize) -> usize
+    ensures { λ r. ⌜ (0 < r) × (r ≤ 2048) ⌝ }
+{
+    if area > LONG_AREA {
+        return SHORT_BLOCK;
+    }
+    BLOCK
+}
+
 // Moves `len` bytes to a lower place, or to the same one: from the front, so that a block is read before it is
 // overwritten.
 pub fn move_bytes_down(area: &mut [u8], from: usize, to: usize, len: usize)
     requires { ⌜ (from + len ≤ length (now area)) × (to ≤ from) ⌝ }
     ensures { λ _. ⌜ now (area .exit) ≡ moved from to len (now (area .entry)) ⌝ }
 {
+    let block = block_in(area.len());
     let mut done: usize = 0;
-    while len - done > BLOCK {
-        move_block(area, from + done, to + done, BLOCK);
-        done += BLOCK;
+    while len - done > block {
+        move_block(area, from + done, to + done, block);
+        done += block;
     }
     move_block(area, from + done, to + done, len - done);
 }

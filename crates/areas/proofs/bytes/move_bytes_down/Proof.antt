@@ -5,10 +5,13 @@ use Rattle.areas.proofs.bytes.move_bytes_down.Statement.{statement}
 use Rattle.areas.proofs.bytes.move_bytes_down.Tie as tie
 
 abbrev Inv-loop : tie.InvT-loop
-Inv-loop area₀ from to len done₀ area done = MovedDown area₀ from to len area done
+Inv-loop area₀ from to len block done₀ area done = MovedDown area₀ from to len area done
 
 abbrev μ-loop : tie.MeasureT-loop
-μ-loop area₀ from to len done₀ area done = len - done
+μ-loop area₀ from to len block done₀ area done = len - done
+
+block-in-requires : tie.Need-block-in-requires Inv-loop μ-loop
+block-in-requires c κs = search needs
 
 loop-holds : tie.Need-loop-holds Inv-loop μ-loop
 loop-holds c = search (none-moved-down, needs)
@@ -58,6 +61,7 @@ move-bytes-down-spec =
     (tie.spec
     Inv-loop
     μ-loop
+    block-in-requires
     loop-holds
     sub-loop
     add-move-block
