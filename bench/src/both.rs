@@ -1,6 +1,6 @@
 //! One measured call on both sides, each time on the same content.
 
-use crate::by_hand;
+use crate::by_hand::{self, Runs};
 use crate::counts::counting;
 use crate::held::Held;
 use crate::lent::Lent;
@@ -298,36 +298,33 @@ impl Both {
         (time, times)
     }
 
-    /// The bytes of bodies that an offer moves which evicts or packs.
-    fn body_bytes_moved(&self) -> usize {
-        let Shape { call, per, length, .. } = self.shape;
-        match call {
-            Call::OfferPacks => self.shape.bodies() * length,
-            Call::OfferEvictsBytes => (self.shape.bodies() - per) * length,
-            _ => 0,
-        }
+    /// What an offer moves which evicts or packs.
+    pub fn runs(&mut self) -> Runs {
+        self.lent.restore();
+        Runs::of(&self.shape, &self.lent.words)
     }
 
-    /// The words of entries that it moves: of those that stay. A gap moves no entry.
-    fn entry_words_moved(&self) -> usize {
-        let Shape { call, per, .. } = self.shape;
-        if call == Call::OfferPacks { 0 } else { (self.shape.bodies() - per) * ENTRY_WORDS }
-    }
-
-    /// Of bodies and entries together, in bytes.
-    pub fn moved(&self) -> usize {
-        self.body_bytes_moved() + 8 * self.entry_words_moved()
+    /// The same bytes from the same places to the same places, by one `memmove` for each run.
+    pub fn memmoves(&mut self, runs: &Runs) -> Spent {
+        self.lent.restore();
+        let words = black_box(&mut self.lent.words);
+        let bytes = black_box(&mut self.lent.bytes);
+        (time_of(|| runs.make(words, bytes)).0, 1)
     }
 
     /// As many bytes of the same areas moved at once towards the front, as far as they move in the
     /// mean: after a gap by its length, after an eviction by half of what was evicted.
     pub fn memmove(&mut self) -> Spent {
-        let (body_bytes, entry_words) = (self.body_bytes_moved(), self.entry_words_moved());
         let Shape { call, per, length, gap, .. } = self.shape;
-        let evicted = per.div_ceil(2);
+        let (stay, evicted) = (self.shape.bodies() - per, per.div_ceil(2));
         self.lent.restore();
-        let from = if call == Call::OfferPacks { gap } else { evicted * length };
+        let (from, body_bytes) = match call {
+            Call::OfferPacks => (gap, self.shape.bodies() * length),
+            Call::OfferEvictsBytes => (evicted * length, stay * length),
+            _ => (0, 0),
+        };
         let from = from.min(self.lent.bytes.len() - body_bytes);
+        let entry_words = if call == Call::OfferPacks { 0 } else { stay * ENTRY_WORDS };
         let first = HEADER_WORDS + evicted * ENTRY_WORDS;
         let bytes = black_box(&mut self.lent.bytes);
         let words = black_box(&mut self.lent.words);
@@ -342,38 +339,43 @@ impl Both {
         (time, 1)
     }
 
-    /// The entries and bodies brought to the same places by hand, with the C library's `memmove`.
-    pub fn by_memmove(&mut self) -> Spent {
-        self.by_hand(by_hand::by_memmove)
-    }
-
-    /// The same with 16-byte loads and stores, as the library has them.
-    pub fn by_sse2(&mut self) -> Spent {
-        self.by_hand(by_hand::by_sse2)
-    }
-
-    fn by_hand(&mut self, moves: by_hand::Move) -> Spent {
+    /// The entries and bodies brought to the same places by hand.
+    pub fn by_hand(&mut self) -> Spent {
         self.lent.restore();
         let shape = self.shape;
         let Lent { words, bytes, records_at, .. } = &mut self.lent;
-        (time_of(|| by_hand::offer(&shape, words, *records_at, bytes, moves)).0, 1)
+        (time_of(|| by_hand::offer(&shape, words, *records_at, bytes)).0, 1)
     }
 
-    /// By hand the entries and bodies are left that the library leaves, but for those that it adds.
-    pub fn check_by_hand(&mut self, moves: by_hand::Move) {
-        let content = (0..self.lent.bytes.len()).map(|at| (at * 31 % 251) as u8);
-        let content: Vec<u8> = content.collect();
-        self.lent.bytes.copy_from_slice(&content);
+    /// The areas as they are before a call, with bodies that differ.
+    fn restore_with_content(&mut self) {
+        self.lent.restore();
+        for (at, byte) in self.lent.bytes.iter_mut().enumerate() {
+            *byte = (at * 31 % 251) as u8;
+        }
+    }
+
+    /// By hand, and by the moves alone, the bodies are left that the library leaves, and the
+    /// entries: but for those that it adds, and by the moves alone for the places of bodies.
+    pub fn check_by_hand(&mut self, runs: &Runs) {
+        self.restore_with_content();
         self.ours();
         let (our_words, our_bytes) = (self.lent.words.clone(), self.lent.bytes.clone());
-        self.lent.restore();
-        self.lent.bytes.copy_from_slice(&content);
+        self.restore_with_content();
         let Lent { words, bytes, records_at, .. } = &mut self.lent;
-        let kept = by_hand::offer(&self.shape, words, *records_at, bytes, moves);
+        let kept = by_hand::offer(&self.shape, words, *records_at, bytes);
         let end = HEADER_WORDS + ENTRY_WORDS * kept;
         assert_eq!(our_words[10], kept as u64 + 1, "{:?}", self.shape);
         assert!(our_words[HEADER_WORDS..end] == words[HEADER_WORDS..end], "{:?}", self.shape);
-        let moved = self.body_bytes_moved();
+        let moves_bodies = self.shape.call != Call::OfferEvicts;
+        let moved = if moves_bodies { kept * self.shape.length } else { 0 };
         assert!(our_bytes[..moved] == self.lent.bytes[..moved], "{:?}", self.shape);
+        self.restore_with_content();
+        runs.make(&mut self.lent.words, &mut self.lent.bytes);
+        assert!(our_bytes[..moved] == self.lent.bytes[..moved], "{:?}", self.shape);
+        let labels = |words: &[u64]| -> Vec<u64> {
+            words[HEADER_WORDS..end].iter().step_by(ENTRY_WORDS).copied().collect()
+        };
+        assert!(labels(&our_words) == labels(&self.lent.words), "{:?}", self.shape);
     }
 }

@@ -1,13 +1,13 @@
-//! Most of what an offer which evicts or packs does in this layout, by hand, with no test and no
-//! proof: every live word is read once, as the test of 28 must, and the entries and the bodies are
-//! brought to where the library leaves them. No record, header or new body is written. Bodies that
-//! lie side by side and move as far are moved at once, by the C library's `memmove` or by a loop of
-//! 16-byte loads and stores, which is what the library is compiled to. The labels are the
-//! templates' numbers, and template 0 is the one that goes.
+//! What an offer which evicts or packs does in this layout, by hand, with no test and no proof.
+//!
+//! `Runs` are the moves alone: the bodies, and the entries, that lie side by side and go the same
+//! way, each moved at once by the C library's `memmove`. `offer` finds them as a routine by hand
+//! would: every live word is read once, as the test of 28 must, and the entries and the bodies are
+//! brought to where the library leaves them. No record, header or new body is written. The labels
+//! are the templates' numbers, and template 0 is the one that goes.
 
 use crate::shape::{Call, Shape};
 use crate::sums;
-use std::arch::x86_64::{__m128i, _mm_loadu_si128, _mm_storeu_si128};
 use std::hint::black_box;
 use std::ptr;
 
@@ -20,17 +20,75 @@ const LABEL: usize = 0;
 const PLACE: usize = 1;
 const LENGTH: usize = 2;
 
-/// Moves so many bytes of an area from one place to a lower one.
-pub type Move = fn(&mut [u8], usize, usize, usize);
+/// Bytes, or words, that move together: where they begin, where they go, and how many they are.
+struct Run {
+    from: usize,
+    to: usize,
+    length: usize,
+}
+
+/// The moves of an offer, and nothing else.
+pub struct Runs {
+    bodies: Vec<Run>,
+    entries: Vec<Run>,
+}
+
+impl Runs {
+    /// Those of the cache that stands in these words.
+    pub fn of(shape: &Shape, words: &[u64]) -> Self {
+        let (entries, _) = words[HEADER..].as_chunks::<4>();
+        let entries = &entries[..shape.bodies()];
+        let moves_bodies = matches!(shape.call, Call::OfferPacks | Call::OfferEvictsBytes);
+        let moves_entries = shape.call != Call::OfferPacks;
+        let mut runs = Self { bodies: Vec::new(), entries: Vec::new() };
+        let (mut kept, mut end) = (0, 0);
+        for (at, entry) in entries.iter().enumerate() {
+            if moves_entries && entry[LABEL] == EVICTED {
+                continue;
+            }
+            let (place, length) = (entry[PLACE] as usize, entry[LENGTH] as usize);
+            if moves_bodies {
+                add(&mut runs.bodies, place, end, length);
+            }
+            if moves_entries {
+                add(&mut runs.entries, HEADER + 4 * at, HEADER + 4 * kept, 4);
+            }
+            kept += 1;
+            end += length;
+        }
+        runs.bodies.retain(|run| run.from != run.to);
+        runs.entries.retain(|run| run.from != run.to);
+        runs
+    }
+
+    /// In bytes.
+    pub fn moved(&self) -> usize {
+        let lengths = |runs: &[Run]| runs.iter().map(|run| run.length).sum::<usize>();
+        lengths(&self.bodies) + 8 * lengths(&self.entries)
+    }
+
+    pub fn make(&self, words: &mut [u64], bytes: &mut [u8]) {
+        for run in &self.bodies {
+            bytes.copy_within(run.from..run.from + run.length, run.to);
+        }
+        for run in &self.entries {
+            words.copy_within(run.from..run.from + run.length, run.to);
+        }
+    }
+}
+
+/// One more that moves: with the run before, where it lies behind that and goes there.
+fn add(runs: &mut Vec<Run>, from: usize, to: usize, length: usize) {
+    match runs.last_mut() {
+        Some(run) if run.from + run.length == from && run.to + run.length == to => {
+            run.length += length;
+        }
+        _ => runs.push(Run { from, to, length }),
+    }
+}
 
 /// Gives how many entries stay. The live words are header with entries, and records.
-pub fn offer(
-    shape: &Shape,
-    words: &mut [u64],
-    records_at: usize,
-    bytes: &mut [u8],
-    moves: Move,
-) -> usize {
+pub fn offer(shape: &Shape, words: &mut [u64], records_at: usize, bytes: &mut [u8]) -> usize {
     let bodies = shape.bodies();
     let front = &words[..HEADER + 4 * bodies];
     let records = &words[records_at..records_at + 8 * shape.templates];
@@ -40,19 +98,18 @@ pub fn offer(
     let (entries, _) = words[HEADER..].as_chunks_mut::<4>();
     let entries = &mut entries[..bodies];
     match shape.call {
-        Call::OfferPacks => pack(entries, bytes, shape.gap, moves),
-        Call::OfferEvictsBytes => evict_and_pack(entries, bytes, moves),
+        Call::OfferPacks => pack(entries, bytes, shape.gap),
+        Call::OfferEvictsBytes => evict_and_pack(entries, bytes),
         _ => evict(entries),
     }
 }
 
 /// All bodies lie side by side behind the gap.
-fn pack(entries: &mut [Entry], bytes: &mut [u8], gap: usize, moves: Move) -> usize {
+fn pack(entries: &mut [Entry], bytes: &mut [u8], gap: usize) -> usize {
     for entry in entries.iter_mut() {
         entry[PLACE] -= gap as u64;
     }
-    let length = bytes.len() - gap;
-    moves(bytes, gap, 0, length);
+    bytes.copy_within(gap.., 0);
     entries.len()
 }
 
@@ -72,67 +129,23 @@ fn evict(entries: &mut [Entry]) -> usize {
     kept
 }
 
-fn evict_and_pack(entries: &mut [Entry], bytes: &mut [u8], moves: Move) -> usize {
+fn evict_and_pack(entries: &mut [Entry], bytes: &mut [u8]) -> usize {
     let (mut kept, mut end) = (0, 0);
-    // Where bodies that lie side by side begin, where they go, and how long they are in all.
-    let (mut from, mut to, mut length) = (0, 0, 0);
+    let mut run = Run { from: 0, to: 0, length: 0 };
     for at in 0..entries.len() {
         let entry = entries[at];
         let (place, len) = (entry[PLACE] as usize, entry[LENGTH] as usize);
         if entry[LABEL] == EVICTED {
-            moves(bytes, from, to, length);
-            (from, to, length) = (place + len, end, 0);
+            bytes.copy_within(run.from..run.from + run.length, run.to);
+            run = Run { from: place + len, to: end, length: 0 };
             continue;
         }
         // SAFETY: no more are kept than were passed.
         unsafe { *entries.get_unchecked_mut(kept) = [entry[0], end as u64, entry[2], entry[3]] };
         kept += 1;
         end += len;
-        length += len;
+        run.length += len;
     }
-    moves(bytes, from, to, length);
+    bytes.copy_within(run.from..run.from + run.length, run.to);
     kept
-}
-
-pub fn by_memmove(bytes: &mut [u8], from: usize, to: usize, length: usize) {
-    debug_assert!(from + length <= bytes.len() && to <= from);
-    let base = bytes.as_mut_ptr();
-    // SAFETY: the bodies lie within the bytes.
-    unsafe { ptr::copy(base.add(from), base.add(to), length) }
-}
-
-/// The bytes of one register that every x86-64 has.
-const STEP: usize = 16;
-const STEPS: usize = 4;
-
-/// From the front, 64 bytes at a time, the stores at multiples of 16.
-#[inline(never)]
-pub fn by_sse2(bytes: &mut [u8], from: usize, to: usize, length: usize) {
-    debug_assert!(from + length <= bytes.len() && to <= from);
-    // SAFETY: the bodies lie within the bytes, and of each 64 bytes all are read before one is
-    // written.
-    unsafe {
-        let base = bytes.as_mut_ptr();
-        let (source, target) = (base.add(from).cast_const(), base.add(to));
-        let lead = target.align_offset(STEP).min(length);
-        let mut done = 0;
-        while done < lead {
-            *target.add(done) = *source.add(done);
-            done += 1;
-        }
-        while done + STEPS * STEP <= length {
-            let read = |at: usize| _mm_loadu_si128(source.add(done + at * STEP).cast::<__m128i>());
-            let (a, b, c, d) = (read(0), read(1), read(2), read(3));
-            let next = target.add(done).cast::<__m128i>();
-            _mm_storeu_si128(next, a);
-            _mm_storeu_si128(next.add(1), b);
-            _mm_storeu_si128(next.add(2), c);
-            _mm_storeu_si128(next.add(3), d);
-            done += STEPS * STEP;
-        }
-        while done < length {
-            *target.add(done) = *source.add(done);
-            done += 1;
-        }
-    }
 }

@@ -1,9 +1,9 @@
 //! The tables of the cache's calls.
 
 use crate::both::Both;
-use crate::by_hand;
+use crate::by_hand::Runs;
 use crate::figures::{grouped, ratio, time};
-use crate::shape::{Call, Order, Shape};
+use crate::shape::{Call, MOST_BYTES, Order, Shape};
 use crate::timing::{Budget, Taken, interleaved, median_of};
 use std::time::{Duration, Instant};
 
@@ -182,41 +182,36 @@ fn print_row(budget: Budget, shape: Shape) -> f64 {
     ours / scalar
 }
 
-/// Templates, bodies and their length: large bodies, small ones, and many.
-const MOVES: [(usize, usize, usize); 14] = [
-    (16, 1_008, 65_531),
-    (1_024, 1_024, 65_000),
-    (16, 44_000, 1_500),
-    (1_024, 43_008, 1_500),
-    (16, 65_536, 1_000),
-    (16, 65_536, 512),
-    (16, 65_536, 64),
-    (16, 262_144, 128),
-    (16, 4_096, 64),
-    (16, 4_096, 1_500),
-    (16, 256, 65_000),
-    (16, 256, 1_500),
-    (16, 16, 65_000),
-    (16, 16, 1_500),
-];
+/// What an export packet has room for: a body of it is at most so long.
+const PACKET: usize = 1_500;
 
-/// Lengths of bodies, and gaps that they are moved by: source and target overlap.
+/// The longest body that is accepted by default.
+const LONGEST: usize = 65_531;
+
+/// Gaps that bodies are moved by which are shorter than they: source and target overlap.
 const GAPS: [(usize, usize); 4] = [(1_500, 1), (1_500, 31), (1_500, 100), (64, 1)];
 
-/// Offers that move what others left, beside a memmove of the same bytes, an offer that moves
-/// nothing, and the entries and bodies brought to the same places by hand. Such large moves hang on what else uses the memory in that
-/// moment, so the ratios are medians of those of the rounds.
+/// Offers that move what others left, beside `memmove`s of the same bytes, an offer that moves
+/// nothing, and the entries and bodies brought to the same places by hand. Such large moves hang on
+/// what else uses the memory in that moment, so the ratios are medians of those of the rounds.
 pub fn print_moves(budget: Budget) {
     println!("\n### Offers that move bodies or entries\n");
     println!(
-        "| moved | templates | bodies | of bytes | gap | bytes moved | memmove | ours \
-         | ours / memmove | (ours - offer) / memmove | by hand / memmove \
-         | by hand, SSE2 / memmove |"
+        "| moved | templates | bodies | of bytes | gap | bytes moved | memmoves | ours | offer \
+         | (ours - offer) / memmoves | ours / memmoves | one memmove \
+         | (ours - offer) / one memmove | by hand / memmoves |"
     );
-    println!("|---|---:|---:|---:|---:|---:|---:|---:|---:|---:|---:|---:|");
-    for call in [Call::OfferPacks, Call::OfferEvictsBytes] {
-        for (templates, bodies, length) in MOVES {
-            print_move(budget, Shape::new(call, templates, bodies, false, length));
+    println!("|---|---:|---:|---:|---:|---:|---:|---:|---:|---:|---:|---:|---:|---:|");
+    for length in [PACKET, LONGEST, LENGTH] {
+        for call in [Call::OfferPacks, Call::OfferEvictsBytes] {
+            for (templates, bodies) in GRID.into_iter().filter(|at| at.0 > 1) {
+                // As long as so many bodies, and one more, can be.
+                let longest = MOST_BYTES / (bodies + 1);
+                if length <= PACKET || PACKET < longest {
+                    let length = length.min(longest);
+                    print_move(budget, Shape::new(call, templates, bodies, false, length));
+                }
+            }
         }
     }
     for (length, gap) in GAPS {
@@ -228,9 +223,11 @@ pub fn print_moves(budget: Budget) {
     }
 }
 
-/// An offer that moves, and one of the same body to a cache of as many bodies that moves nothing.
+/// An offer that moves, its moves, and one of the same body to a cache of as many bodies that moves
+/// nothing.
 struct Moves {
     moving: Both,
+    runs: Runs,
     resting: Both,
 }
 
@@ -238,17 +235,18 @@ fn print_move(budget: Budget, shape: Shape) {
     let call = if shape.call == Call::OfferEvicts { Call::OfferNew } else { Call::OfferHeld };
     let rests = Shape::new(call, shape.templates, shape.bodies(), false, shape.length);
     let rests = Shape { offered: shape.offered, ..rests };
-    let mut moves = Moves { moving: Both::new(shape), resting: Both::new(rests) };
-    moves.moving.check_by_hand(by_hand::by_memmove);
-    moves.moving.check_by_hand(by_hand::by_sse2);
+    let mut moving = Both::new(shape);
+    let runs = moving.runs();
+    moving.check_by_hand(&runs);
+    let mut moves = Moves { moving, runs, resting: Both::new(rests) };
     let taken = interleaved(
         budget,
         &mut moves,
         &mut [
             &mut |moves: &mut Moves| moves.moving.ours(),
+            &mut |moves: &mut Moves| moves.moving.memmoves(&moves.runs),
             &mut |moves: &mut Moves| moves.moving.memmove(),
-            &mut |moves: &mut Moves| moves.moving.by_memmove(),
-            &mut |moves: &mut Moves| moves.moving.by_sse2(),
+            &mut |moves: &mut Moves| moves.moving.by_hand(),
             &mut |moves: &mut Moves| moves.resting.ours(),
         ],
     );
@@ -258,17 +256,19 @@ fn print_move(budget: Budget, shape: Shape) {
         _ => "entries not evicted",
     };
     println!(
-        "| {moved} | {} | {} | {} | {} | {} | {} | {} | {} | {} | {} | {} |",
+        "| {moved} | {} | {} | {} | {} | {} | {} | {} | {} | {} | {} | {} | {} | {} |",
         grouped(shape.templates),
         grouped(shape.bodies()),
         grouped(shape.length),
         grouped(shape.gap),
-        grouped(moves.moving.moved()),
+        grouped(moves.runs.moved()),
         time(taken[1].figure()),
         time(taken[0].figure()),
-        ratio(median_of(&taken, |round| round[0] / round[1])),
+        time(taken[4].figure()),
         ratio(median_of(&taken, |round| (round[0] - round[4]) / round[1])),
-        ratio(median_of(&taken, |round| round[2] / round[1])),
+        ratio(median_of(&taken, |round| round[0] / round[1])),
+        time(taken[2].figure()),
+        ratio(median_of(&taken, |round| (round[0] - round[4]) / round[2])),
         ratio(median_of(&taken, |round| round[3] / round[1])),
     );
 }

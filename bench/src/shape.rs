@@ -4,7 +4,7 @@ use oracle::original::Limits;
 
 /// The most bodies that a cache can have room for, and the most bytes.
 const MOST_BODIES: usize = 262_144;
-const MOST_BYTES: usize = 67_108_864;
+pub const MOST_BYTES: usize = 67_108_864;
 const MOST_TEMPLATES: usize = 1_024;
 
 /// Longer than any run's clock readings: nothing is expired.
