@@ -35,7 +35,9 @@ loop-less : tie.Need-loop-less Inv-loop μ-loop
 loop-less c = search needs
 
 loop-again : tie.Need-loop-again Inv-loop μ-loop
-loop-again c = search (more-moved-down, needs)
+loop-again c =
+    let moved : tie.After-move-block Inv-loop μ-loop = search needs in
+    more-moved-down (moved .before .before .before .loop .inv) _ _ (search needs) (moved .move-block .ensures)
 
 add-move-block-3 : tie.Need-add-move-block-3 Inv-loop μ-loop
 add-move-block-3 c = search needs
