@@ -1,6 +1,6 @@
 -- The live bodies of an id, by its record; and that nothing goes where none of them is expired. Assumes nothing.
 use mathlib.Core.Path.{_≡_, refl, sym, ap, _∙_}
-use mathlib.Core.Bool.{Bool, true, false, _&&_, cond, false≢true}
+use mathlib.Core.Bool.{Bool, true, false, _&&_, cond}
 use mathlib.Core.List.{List, [], _∷_}
 use Prim.Native.Nat.{ℕ, _≤_, _<_}
 use native.Mathlib.Omega.{arith}
@@ -110,9 +110,6 @@ module _ {ttl : Ttl} {clock : ℕ} {rs : List TemplateRecord} {es : List Entry} 
 -- ---- whether nothing goes
 
 module _ (evicted chance : ℕ) (d : Decision) where
-  pub not-certain : (false ≡ true → NothingGoes evicted chance d)
-  not-certain e = absurd (false≢true e)
-
   pub certain : evicted ≤ 0 → chance ≤ 0 → d .all ≡ false → (d .live ≡ true → NothingGoes evicted chance d)
   certain e c a l =
       record { evicts-none = omega arith; hands-none = omega arith; one-id = a; none-expired = l }

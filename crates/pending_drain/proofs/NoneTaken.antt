@@ -1,6 +1,6 @@
 -- A drain where no body goes: it takes out the record of the label alone. Assumes nothing.
 use mathlib.Core.Path.{_≡_, refl, sym, _∙_}
-use mathlib.Core.Bool.{Bool, true, false, cond, false≢true}
+use mathlib.Core.Bool.{Bool, true, false, cond}
 use mathlib.Core.List.{List, [], _∷_, _++_}
 use Prim.Native.Nat.{ℕ, _+_, _≤_, _<_}
 use native.Mathlib.Omega.{arith}
@@ -35,9 +35,6 @@ use Rattle.pending_drain.proofs.Handing.{nothing-skipped, taken-out}
 -- ---- whether nothing goes
 
 module _ (chance count live : ℕ) where
-  pub not-certain : (false ≡ true → NothingGoes chance count live)
-  not-certain e = absurd (false≢true e)
-
   pub as-counted : (n : ℕ) → chance ≤ 0 → n ≡ count → (eqb n live ≡ true → NothingGoes chance count live)
   as-counted n c counted e = record { hands-none = omega arith; all-live = sym counted ∙ eqb-true n live e }
 

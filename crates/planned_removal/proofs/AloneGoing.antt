@@ -1,7 +1,7 @@
 -- Which template goes alone: where nothing is handed out, the one that goes for room, or the least recent one where one
 -- goes for its bytes and none for room. Assumes nothing.
 use mathlib.Core.Path.{_≡_, refl, sym, ap, subst, _∙_}
-use mathlib.Core.Bool.{Bool, true, false, false≢true}
+use mathlib.Core.Bool.{Bool, true, false}
 use mathlib.Core.List.{List, [], _∷_}
 use Prim.Native.Nat.{ℕ, _+_, _*_, _≤_, _<_}
 use native.Mathlib.Omega.{arith}
@@ -103,9 +103,6 @@ alone-removed w b ok clock apart label plan alone small done =
 
 -- whether nothing goes but expired bodies of the id
 module _ (f : HeaderFigures) (plan : OfferPlan) (apart : ℕ) where
-  pub not-certain : (false ≡ true → OnlyExpired f plan apart)
-  not-certain e = absurd (false≢true e)
-
   pub certain : f .chance ≤ 0 → plan .evicted ≤ 0 → 1024 ≤ plan .first → plan .all ≡ false →
       (eqb (plan .label) apart ≡ true → OnlyExpired f plan apart)
   certain chance evicted first all own = record {

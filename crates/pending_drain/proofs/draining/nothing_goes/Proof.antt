@@ -1,10 +1,11 @@
+use mathlib.Core.Bool.{false≢true}
 use borrow.Author.Needs.{needs}
-use Rattle.pending_drain.proofs.NoneTaken.{not-certain, as-counted}
+use Rattle.pending_drain.proofs.NoneTaken.{as-counted}
 use Rattle.pending_drain.proofs.draining.nothing_goes.Statement.{statement}
 use Rattle.pending_drain.proofs.draining.nothing_goes.Tie as tie
 
 returns : tie.Need-returns
-returns c = not-certain _ _ _
+returns c = λ e. absurd (false≢true e)
 
 count-of-requires : tie.Need-count-of-requires
 count-of-requires c κs = search needs
