@@ -218,12 +218,13 @@ module _ (w b : List ℕ) (ok : wellFormed w (length b) ≡ true) {skip : List �
 
       pub expired-removed : (ttl : Ttl) (now live : ℕ) →
           live ≡ tally apart (swept (unexpired ttl now apart) skip (entriesFrom w entriesAt (f .entries))) →
-          kept ≡ set kept₀ apart live → Sweeps (unexpired ttl now apart) (f .entries) skip w w₁ left →
+          kept ≡ set kept₀ apart live → {q : StayTest} → q ≡ unexpired ttl now apart →
+          Sweeps q (f .entries) skip w w₁ left →
           ClosesApart p (f .templates + f .chance) apart left kept w₁ w′ r → length w′ ≡ length w →
           Removes (unexpired ttl now apart) (recordsAt (limitsOf w)) (heldCount w + chanceCount w) (entryCount w) apart
           skip w w′ r
-      expired-removed ttl now live stays same s c long =
+      expired-removed ttl now live stays same test s c long =
           removed-by (unexpired ttl now apart)
           (λ is. same ∙ ap (λ (xs : List ℕ). set xs apart live) is
           ∙ counted-but ttl now apart live (stays-read apart figures ttl now live stays))
-          s c long
+          (rw test at s) c long

@@ -7,6 +7,7 @@ pub use clearing::ClearAnswer;
 pub use clearing::clear;
 pub use counters::raised;
 pub use removal::Removed;
+pub use removal::label_test;
 pub use removal::remove;
 pub use removal::remove_expired;
 pub use removal::remove_none;

@@ -46,6 +46,19 @@ pub fn stay_all() -> StayTest
     }
 }
 
+// The test by which the expired bodies of a label go, and no others.
+pub fn label_test(ttl: Ttl, clock: u64, label: u64) -> StayTest
+    ensures { λ r. ⌜ r ≡ unexpired ttl clock label ⌝ }
+{
+    StayTest {
+        ttl,
+        clock,
+        all: false,
+        label,
+        max_size: 18446744073709551615,
+    }
+}
+
 // Closes the records by how many bodies each label has kept; the record of the label `apart` goes, and what it kept is
 // told.
 fn close_apart(
@@ -141,13 +154,7 @@ pub fn remove_expired(
     let from = records_at(limits);
     let records = (figures.templates + figures.chance) as usize;
     let ttl = limits.ttl;
-    let test = StayTest {
-        ttl,
-        clock,
-        all: false,
-        label: apart,
-        max_size: 18446744073709551615,
-    };
+    let test = label_test(ttl, clock, apart);
     let mut kept = [0u32; LABELS];
     // before the sweep, which spends what is to be skipped
     count_whole(words, from, records, skip, &mut kept);

@@ -10,9 +10,9 @@ ghost use Rattle.pending_calls.specs.Removal.{unexpired, Removes};
 use config::PendingFlowsConfig;
 use entry_sweeps::sweep_staying;
 use pending_calls::Removed;
+use pending_calls::label_test;
 use pending_flows::HeaderFigures;
 use table::records_at;
-use table_entries::StayTest;
 use table_promotion::take_record;
 
 // Removes the expired bodies of a label. Its record goes though other bodies of it may stay: how many, is what it
@@ -36,13 +36,7 @@ pub fn remove_expired_of(
     let records = (figures.templates + figures.chance) as usize;
     let entries = figures.entries as usize;
     let ttl = limits.ttl;
-    let test = StayTest {
-        ttl,
-        clock,
-        all: false,
-        label,
-        max_size: 18446744073709551615,
-    };
+    let test = label_test(ttl, clock, label);
     let left = sweep_staying(words, entries, test);
     let taken = take_record(words, from, records, label);
     let went = (entries - left.entries) as u32;

@@ -11,8 +11,11 @@ use Rattle.pending_calls.proofs.removal.remove_expired.Tie as tie
 abbrev start-of : tie.After-records-at → tie.Start
 start-of read = read .before .before .before
 
-abbrev read-of : tie.After-count-whole → tie.After-records-at
-read-of counted = counted .before .before .before .before .before
+abbrev read-of : tie.After-label-test → tie.After-records-at
+read-of tested = tested .before .before
+
+abbrev tested-of : tie.After-count-whole → tie.After-label-test
+tested-of counted = counted .before .before .before .before
 
 abbrev counted-of : tie.After-set-sum → tie.After-count-whole
 counted-of set = set .before .before
@@ -26,13 +29,16 @@ records-at-requires c κs = search (bodies-few, needs)
 add-records : tie.Need-add-records
 add-records c = record { fits = search (records-fit, needs) }
 
+label-test-requires : tie.Need-label-test-requires
+label-test-requires c κs = search needs
+
 count-whole-requires : tie.Need-count-whole-requires
 count-whole-requires c κs = search (records-inside, needs)
 
 cast-set-sum : tie.Need-cast-set-sum
 cast-set-sum c =
     let counted : tie.After-count-whole = c .before in
-    let start = start-of (read-of counted) in
+    let start = start-of (read-of (tested-of counted)) in
     record {
       fits = live-small _ (start .args .bytes .now) (start .pre .0 .0) (start .pre .1 .0 .1) _ (start .pre .1 .0 .0) _ _ _
           (start .pre .1 .1);
@@ -43,13 +49,13 @@ set-sum-requires c κs = search needs
 
 sweep-requires : tie.Need-sweep-requires
 sweep-requires c κs =
-    let start = start-of (read-of (counted-of (c .before .before))) in
+    let start = start-of (read-of (tested-of (counted-of (c .before .before)))) in
     sweep-room _ (start .args .bytes .now) (start .pre .0 .0) (start .pre .1 .0 .1) (start .pre .1 .0 .0)
 
 close-apart-requires : tie.Need-close-apart-requires
 close-apart-requires c κs =
     let swept : tie.After-sweep = c .before .before .before .before in
-    let read = read-of (counted-of (set-of swept)) in
+    let read = read-of (tested-of (counted-of (set-of swept))) in
     let ok = start-of read .pre .0 .0 in
     let figures = start-of read .pre .1 .0 .0 in
     let inside = records-inside _ _ ok _ figures _ (start-of read .pre .0 .1) _ (read .records-at .ensures) in
@@ -64,11 +70,12 @@ returns c =
     let swept : tie.After-sweep = closed .before .before .before .before .before in
     let set = set-of swept in
     let counted = counted-of set in
-    let read = read-of counted in
+    let tested = tested-of counted in
+    let read = read-of tested in
     let start = start-of read in
     expired-removed _ (start .args .bytes .now) (start .pre .0 .0) (start .pre .1 .0 .1) _ (start .pre .1 .0 .0)
     (start .pre .0 .1) (read .records-at .ensures) (counted .count-whole .ensures) _ _ _ (start .pre .1 .1)
-    (set .set-sum .ensures) (swept .sweep .ensures) (closed .close-apart .ensures)
+    (set .set-sum .ensures) (tested .label-test .ensures) (swept .sweep .ensures) (closed .close-apart .ensures)
     (closed .close-apart .kept .0 ∙ swept .sweep .kept .0)
 
 pub remove-expired-spec : {M : Type 1} → statement M
@@ -77,6 +84,7 @@ remove-expired-spec =
     (tie.spec
     records-at-requires
     add-records
+    label-test-requires
     count-whole-requires
     cast-set-sum
     set-sum-requires
