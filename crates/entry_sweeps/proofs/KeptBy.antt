@@ -1,20 +1,26 @@
 -- What a sweep by a test on each entry keeps, where only entries of one label can fail. Assumes nothing.
 use mathlib.Core.Path.{_≡_, refl, sym, ap, _∙_}
-use mathlib.Core.Bool.{Bool, true, false}
+use mathlib.Core.Bool.{Bool, true, false, not, and-true}
 use mathlib.Core.List.{List, [], _∷_}
-use Prim.Native.Nat.{ℕ, suc, _+_, _≤_}
+use Prim.Native.Nat.{ℕ, suc, _+_, _-_, _≤_}
 use native.Mathlib.Omega.{arith}
 use native.Mathlib.Decide.{ℕ-discrete}
+use lib.Dec.{eqb}
 use lib.ListN.{length, getD}
+use borrow.Author.Tests.{le-leb}
+use Rattle.config.specs.declared.Ttl.the-variants.{After}
 use Rattle.config.proofs.Tests.{by-case}
 use Rattle.config.proofs.Lists.{All}
 use Rattle.table.specs.declared.Entry.{Entry}
-use Rattle.table.specs.Table.{tally}
+use Rattle.table.specs.Layout.{entriesAt}
+use Rattle.table.specs.Table.{entriesFrom, tally}
 use Rattle.table.proofs.Labels.{tally-here, tally-later}
 use Rattle.table_entries.specs.declared.StayTest.{StayTest}
+use Rattle.table_entries.specs.declared.sweeps.Kept.{Kept}
 use Rattle.table_entries.specs.Stays.{stays}
+use Rattle.table_entries.specs.Sums.{lensWord}
 use Rattle.table_entries.specs.Sweep.{swept}
-use Rattle.entry_sweeps.specs.KeptBy.{keptBy}
+use Rattle.entry_sweeps.specs.KeptBy.{keptBy, SweepsBy}
 
 -- where nothing is to be skipped, a sweep keeps what stays by itself
 pub swept-unskipped : (q : StayTest) (skip : List ℕ) (es : List Entry) → All (λ e. getD skip (e .label) 0 ≡ 0) es →
@@ -22,6 +28,42 @@ pub swept-unskipped : (q : StayTest) (skip : List ℕ) (es : List Entry) → All
 unfolding swept keptBy
 swept-unskipped q skip [] n = refl
 swept-unskipped q skip (e ∷ es) n = rw (n .0, swept-unskipped q skip es (n .1))
+
+-- an entry of another label
+abbrev pub otherThan : ℕ → Entry → Bool
+otherThan label e = not (eqb label (e .label))
+
+-- by a TTL of 0 every body is expired: of the aged label none stays
+module _ (now label most : ℕ) where
+  abbrev pub zeroTtl : StayTest
+  zeroTtl = record { ttl = After 0; clock = now; all = false; label = label; «max_size» = most }
+
+  zero-stays : (e : Entry) → e .len ≤ most → stays zeroTtl e ≡ otherThan label e
+  unfolding stays
+  zero-stays e short =
+      rw (
+        le-leb 0 (now - e .clock) (omega arith),
+        and-true (eqb label (e .label)),
+        le-leb (e .len) most short,
+        and-true (otherThan label e),
+      )
+
+  zero-kept : (es : List Entry) → All (λ e. e .len ≤ most) es → keptBy (stays zeroTtl) es ≡ keptBy (otherThan label) es
+  unfolding keptBy
+  zero-kept [] short = refl
+  zero-kept (e ∷ es) short = rw (zero-stays e (short .0), zero-kept es (short .1))
+
+  pub zero-sweeps : {m : ℕ} {w w′ : List ℕ} {r : Kept} → All (λ e. e .len ≤ most) (entriesFrom w entriesAt m) →
+      SweepsBy (stays zeroTtl) m w w′ r → SweepsBy (otherThan label) m w w′ r
+  zero-sweeps {m} {w} short s =
+      let same = zero-kept (entriesFrom w entriesAt m) short in
+      record {
+        few = s .few;
+        entries = s .entries ∙ same;
+        bytes = s .bytes ∙ ap lensWord same;
+        head = s .head;
+        tail = s .tail;
+      }
 
 module _ (p : Entry → Bool) where
   -- what holds of a first entry and others: it goes, or is kept

@@ -6,7 +6,6 @@ use native.Mathlib.Nat.{mod-add-mod}
 use native.Mathlib.Omega.{arith}
 use lib.ListN.{length, take, drop}
 use mathlib.Core.Bool.{Bool, true, false}
-use borrow.Author.Tests.{eq-eqb, ne-eqb}
 use Rattle.config.specs.Limits.{entryWords}
 use Rattle.table.specs.declared.Entry.{Entry}
 use Rattle.table.specs.Layout.{entriesAt}
@@ -14,7 +13,7 @@ use Rattle.table.specs.Table.{entryAt, entriesFrom}
 use Rattle.table.proofs.Words.{entries-first, entries-none}
 use Rattle.table_entries.specs.Sums.{lensSum, lensWord}
 use Rattle.table_entries.specs.Sweep.{putEntry}
-use Rattle.entry_sweeps.specs.KeptBy.{keptBy, otherThan, SweepsBy}
+use Rattle.entry_sweeps.specs.KeptBy.{keptBy, SweepsBy}
 use Rattle.table_entries.proofs.Frames.{entries-below, entries-above, entries-more, length-put, take-put}
 use Rattle.table_entries.proofs.Frames.{drop-put, entry-put}
 use Rattle.table_entries.proofs.Lengths.{lens-more}
@@ -116,19 +115,3 @@ module _ (p : Entry → Bool) (entries : ℕ) where
           head = take-put w to e entriesAt (omega (arith, inv .filled)) ∙ inv .head;
           tail = drop-put w to e (entriesAt + entryWords * entries) (omega (arith, inv)) ∙ inv .tail;
         }
-
--- by the test for other labels
-module _ (label entries : ℕ) {w₀ w : List ℕ} {kept bytes left from to : ℕ}
-    (inv : PassKept (otherThan label) entries w₀ w kept bytes left from to) (e : Entry) (more : 0 < left)
-    (is : e ≡ entryAt w from) where
-  pub own-left-out : label ≡ e .label →
-      PassKept (otherThan label) entries w₀ w kept bytes (left - 1) (from + entryWords) to
-  own-left-out same =
-      entry-left-out (otherThan label) entries inv e (otherThan label e) more is refl (rw (eq-eqb label (e .label) same))
-
-  pub other-kept : (label ≡ e .label → ⊥) → entriesAt + entryWords * entries ≤ length w₀ → (bytes′ : ℕ) →
-      bytes′ ≡ (bytes + e .len) % 2 ^ 64 →
-      PassKept (otherThan label) entries w₀ (putEntry w to e) (kept + 1) bytes′ (left - 1) (from + entryWords)
-      (to + entryWords)
-  other-kept other room =
-      entry-kept (otherThan label) entries inv e (otherThan label e) more is refl (rw (ne-eqb label (e .label) other)) room

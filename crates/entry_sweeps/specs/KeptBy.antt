@@ -1,9 +1,8 @@
 -- The sweep by a test on each entry alone: those that fail go, the others close up in their order.
 use mathlib.Core.Path.{_≡_}
 use mathlib.Core.List.{List, [], _∷_}
-use mathlib.Core.Bool.{Bool, not, cond}
+use mathlib.Core.Bool.{Bool, cond}
 use Prim.Native.Nat.{ℕ, _+_, _*_, _≤_}
-use lib.Dec.{eqb}
 use lib.ListN.{take, drop}
 use Rattle.config.specs.Limits.{entryWords}
 use Rattle.table.specs.declared.Entry.{Entry}
@@ -16,10 +15,6 @@ use Rattle.table_entries.specs.Sums.{lensWord}
 unfoldable pub keptBy : (Entry → Bool) → List Entry → List Entry
 keptBy p [] = []
 keptBy p (e ∷ es) = cond (p e) (e ∷ keptBy p es) (keptBy p es)
-
--- an entry of another label
-abbrev pub otherThan : ℕ → Entry → Bool
-otherThan label e = not (eqb label (e .label))
 
 -- the first m entries are swept by a test; no other word changes
 pub record SweepsBy (p : Entry → Bool) (m : ℕ) (w w′ : List ℕ) (r : Kept) : Type 0 where

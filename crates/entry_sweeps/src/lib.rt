@@ -1,6 +1,4 @@
-// Sweeps of the entries of a table by a test on each entry alone, which need no array (docs/LAYOUT.md).
-mod label_sweeps;
+// The sweep of the entries of a table by a test on each entry alone, which needs no array (docs/LAYOUT.md).
 mod stay_sweeps;
 
-pub use label_sweeps::sweep_label;
 pub use stay_sweeps::sweep_staying;

@@ -20,8 +20,8 @@ use Rattle.table_entries.specs.Stays.{stays}
 use Rattle.table_entries.specs.Sweep.{swept}
 use Rattle.table_entries.proofs.LabelSums.{zeros}
 use Rattle.table_view.proofs.Tied.{none-past}
-use Rattle.entry_sweeps.specs.KeptBy.{keptBy, otherThan}
-use Rattle.entry_sweeps.proofs.KeptBy.{OthersPass, kept-others}
+use Rattle.entry_sweeps.specs.KeptBy.{keptBy}
+use Rattle.entry_sweeps.proofs.KeptBy.{otherThan, OthersPass, kept-others}
 
 module _ (label : ℕ) where
   -- the first entry goes, or is kept

@@ -11,6 +11,7 @@ use lib.ListN.{length, getD, set, replicate, length-replicate, List·getD-eq-def
 use lib.Seq.{getD-set-other}
 use borrow.Author.Tests.{eqb-true, eqb-false, ltb-true, ltb-false}
 use Rattle.config.specs.declared.PendingFlowsConfig.{PendingFlowsConfig}
+use Rattle.config.specs.declared.Ttl.the-variants.{After}
 use Rattle.config.specs.Limits.{recordWords, entryWords}
 use Rattle.config.specs.Age.{expiredAt}
 use Rattle.config.proofs.Lists.{All, all-of, all-both}
@@ -22,10 +23,13 @@ use Rattle.table.specs.WellFormed.{wellFormed, indexRises}
 use Rattle.table.proofs.Words.{length-entries, length-records}
 use Rattle.table.proofs.Facts.{LegalWords, words-say}
 use Rattle.table.proofs.Labels.{tally-most, absent-says, absent-holds, absent-tally}
+use Rattle.table_entries.specs.declared.StayTest.{StayTest}
 use Rattle.table_entries.specs.declared.sweeps.Kept.{Kept}
+use Rattle.table_entries.specs.Stays.{stays}
 use Rattle.table_entries.specs.Sums.{lensWord}
 use Rattle.table_entries.specs.Sweep.{swept, Sweeps}
-use Rattle.entry_sweeps.specs.KeptBy.{keptBy, otherThan, SweepsBy}
+use Rattle.entry_sweeps.specs.KeptBy.{keptBy, SweepsBy}
+use Rattle.entry_sweeps.proofs.KeptBy.{otherThan, zero-sweeps}
 use Rattle.table_entries.proofs.LabelSums.{length-summed, zeros}
 use Rattle.table_entries.proofs.Swept.{length-swept, all-swept}
 use Rattle.table_records.specs.Choose.{skipAll}
@@ -42,7 +46,7 @@ use Rattle.table_view.proofs.AllStay.{all-stay}
 use Rattle.table_view.proofs.Removed.{label-counts, none-set}
 use Rattle.table_view.proofs.Summed.{lenMost}
 use Rattle.table_view.proofs.Tied.{entries-small}
-use Rattle.pending_calls.specs.Removal.{everything, counted, countedBut, Removes}
+use Rattle.pending_calls.specs.Removal.{everything, unexpired, counted, countedBut, Removes}
 use Rattle.pending_calls.proofs.NoneRemoved.{entries-short}
 use Rattle.pending_calls.proofs.Removals.{removal-done, closed-apart}
 use Rattle.pending_calls.proofs.Removed.{TiedRows, rows-tied, few-templates, entries-below-records, records-within}
@@ -279,12 +283,13 @@ module _ (w : List ℕ) (n : ℕ) (ok : wellFormed w n ≡ true) (label apart : 
 -- with the limits and the figures that were read
 module _ (w : List ℕ) (n : ℕ) (ok : wellFormed w n ≡ true) (label apart : ℕ) {f : HeaderFigures}
     {l : PendingFlowsConfig} {p : ℕ} (figures : f ≡ figuresAt w) (limits : l ≡ limitsOf w) (from : p ≡ recordsAt l)
-    {w₁ w₂ w₃ : List ℕ} {left : Kept} {a b : Taken} where
-  pub template-removed : SweepsBy (otherThan label) (f .entries) w w₁ left →
+    {w₁ w₂ w₃ : List ℕ} {left : Kept} {q : StayTest} {a b : Taken} where
+  pub template-removed : q ≡ unexpired (After 0) 0 label → SweepsBy (stays q) (f .entries) w w₁ left →
       TakesLabel label p (f .templates + f .chance) w₁ w₂ a → TakesLabel apart p (a .records) w₂ w₃ b →
       length w₃ ≡ length w →
       Removes everything (recordsAt (limitsOf w)) (heldCount w + chanceCount w) (entryCount w) apart
       (set (replicate 1024 0) label skipAll) w w₃
       (record { entries = left .entries; bytes = left .bytes; records = b .records; apart = b .bodies })
-  template-removed s t u long =
-      removed-by w n ok label apart (rw figures at s) (rw (from, limits, figures) at t) (rw (from, limits) at u) long
+  template-removed test s t u long =
+      removed-by w n ok label apart (zero-sweeps 0 label lenMost (entries-short w n ok) (rw (test, figures) at s))
+      (rw (from, limits, figures) at t) (rw (from, limits) at u) long

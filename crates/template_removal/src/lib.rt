@@ -11,9 +11,11 @@ ghost use Rattle.table_records.specs.Choose.{skipAll};
 ghost use Rattle.pending_flows.specs.Header.{figuresAt};
 ghost use Rattle.pending_calls.specs.Removal.{everything, Removes};
 use config::PendingFlowsConfig;
-use entry_sweeps::sweep_label;
+use config::Ttl;
+use entry_sweeps::sweep_staying;
 pub use expired::remove_expired_of;
 use pending_calls::Removed;
+use pending_calls::label_test;
 use pending_flows::HeaderFigures;
 use table::records_at;
 use table_promotion::take_record;
@@ -37,7 +39,9 @@ pub fn remove_template(
 {
     let from = records_at(limits);
     let records = (figures.templates + figures.chance) as usize;
-    let left = sweep_label(words, figures.entries as usize, label);
+    // by a TTL of 0 every body of the label is expired
+    let test = label_test(Ttl::After(0), 0, label);
+    let left = sweep_staying(words, figures.entries as usize, test);
     let others = take_record(words, from, records, label);
     let taken = take_record(words, from, others.records, apart);
     Removed {

@@ -12,10 +12,13 @@ use Rattle.template_removal.proofs.remove_template.Tie as tie
 abbrev start-of : tie.After-records-at → tie.Start
 start-of read = read .before .before .before
 
-abbrev read-of : tie.After-sweep-label → tie.After-records-at
-read-of swept = swept .before .before .before
+abbrev read-of : tie.After-label-test → tie.After-records-at
+read-of tested = tested .before .before
 
-abbrev swept-of : tie.After-take-record → tie.After-sweep-label
+abbrev tested-of : tie.After-sweep-staying → tie.After-label-test
+tested-of swept = swept .before .before
+
+abbrev swept-of : tie.After-take-record → tie.After-sweep-staying
 swept-of taken = taken .before .before .before .before
 
 records-at-requires : tie.Need-records-at-requires
@@ -24,9 +27,13 @@ records-at-requires c κs = search (bodies-few, needs)
 add-records : tie.Need-add-records
 add-records c = record { fits = search (records-fit, needs) }
 
-sweep-label-requires : tie.Need-sweep-label-requires
-sweep-label-requires c κs =
-    let read : tie.After-records-at = c .before .before in
+label-test-requires : tie.Need-label-test-requires
+label-test-requires c κs = search needs
+
+sweep-staying-requires : tie.Need-sweep-staying-requires
+sweep-staying-requires c κs =
+    let tested : tie.After-label-test = c .before in
+    let read = read-of tested in
     let start = start-of read in
     let below = entries-below _ _ (start .pre .0 .0) _ (start .pre .1) _ (start .pre .0 .1) _ (read .records-at .ensures) in
     let inside = records-inside _ _ (start .pre .0 .0) _ (start .pre .1) _ (start .pre .0 .1) _ (read .records-at .ensures) in
@@ -34,23 +41,23 @@ sweep-label-requires c κs =
 
 take-record-requires : tie.Need-take-record-requires
 take-record-requires c κs =
-    let swept : tie.After-sweep-label = c .before .before .before in
-    let read = read-of swept in
+    let swept : tie.After-sweep-staying = c .before .before .before in
+    let read = read-of (tested-of swept) in
     let start = start-of read in
     let inside = records-inside _ _ (start .pre .0 .0) _ (start .pre .1) _ (start .pre .0 .1) _ (read .records-at .ensures) in
-    omega (arith, inside, swept .sweep-label .kept .0)
+    omega (arith, inside, swept .sweep-staying .kept .0)
 
 take-record-requires-2 : tie.Need-take-record-requires-2
 take-record-requires-2 c κs =
     let taken : tie.After-take-record = c .before .before .before in
     let swept = swept-of taken in
-    let read = read-of swept in
+    let read = read-of (tested-of swept) in
     let start = start-of read in
     let inside = records-inside _ _ (start .pre .0 .0) _ (start .pre .1) _ (start .pre .0 .1) _ (read .records-at .ensures) in
     omega (
       arith,
       inside,
-      swept .sweep-label .kept .0,
+      swept .sweep-staying .kept .0,
       taken .take-record .kept .0,
       taken-few _ _ _ _ (taken .take-record .ensures),
     )
@@ -63,11 +70,13 @@ returns c =
     let last : tie.After-take-record2 = c .before .before in
     let taken : tie.After-take-record = last .before .before .before .before in
     let swept = swept-of taken in
-    let read = read-of swept in
+    let tested = tested-of swept in
+    let read = read-of tested in
     let start = start-of read in
     template-removed _ _ (start .pre .0 .0) _ _ (start .pre .1) (start .pre .0 .1) (read .records-at .ensures)
-    (swept .sweep-label .ensures) (taken .take-record .ensures) (last .take-record2 .ensures)
-    (last .take-record2 .kept .0 ∙ taken .take-record .kept .0 ∙ swept .sweep-label .kept .0)
+    (tested .label-test .ensures) (swept .sweep-staying .ensures) (taken .take-record .ensures)
+    (last .take-record2 .ensures)
+    (last .take-record2 .kept .0 ∙ taken .take-record .kept .0 ∙ swept .sweep-staying .kept .0)
 
 pub remove-template-spec : {M : Type 1} → statement M
 remove-template-spec =
@@ -75,7 +84,8 @@ remove-template-spec =
     (tie.spec
     records-at-requires
     add-records
-    sweep-label-requires
+    label-test-requires
+    sweep-staying-requires
     take-record-requires
     take-record-requires-2
     same-length
