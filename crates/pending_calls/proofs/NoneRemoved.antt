@@ -41,7 +41,7 @@ use Rattle.table_view.proofs.Removed.{label-counts, none-set, placed-short}
 use Rattle.table_view.proofs.Totals.{lens-owned}
 use Rattle.table_view.proofs.AllStay.{everything-swept}
 use Rattle.pending_calls.specs.declared.removal.Removed.{Removed}
-use Rattle.pending_calls.specs.Removal.{everything, counted, countedBut, Removes}
+use Rattle.pending_calls.specs.Removal.{everything, counted, countedBut, Removes, RemovesFrom}
 use Rattle.pending_calls.proofs.Removals.{removal-done, closed-apart}
 use Rattle.pending_calls.proofs.Removed.{TiedRows, rows-tied, rows-placed, few-templates, few-bodies}
 use Rattle.pending_calls.proofs.Removed.{total-short, entries-below-records, records-within}
@@ -150,7 +150,7 @@ module _ (w : List ℕ) (n : ℕ) (ok : wellFormed w n ≡ true) where
 
         done-by : (w′ : List ℕ) (remain bodies : ℕ) → Closes p k kept w w′ remain → length w′ ≡ length w →
             bodies ≡ getD (counted es) apart 0 →
-            Removes everything (recordsAt (limitsOf w)) (heldCount w + chanceCount w) (entryCount w) apart zeros w w′
+            RemovesFrom everything apart zeros w w′
             (record { entries = f .entries; bytes = f .total; records = remain; apart = bodies })
         done-by w′ remain bodies closes long counts =
             let many : f .entries ≡ entryCount w = ap (λ (g : HeaderFigures). g .entries) is in
@@ -228,7 +228,7 @@ module _ (w : List ℕ) (n : ℕ) (ok : wellFormed w n ≡ true) where
               by-place false e = let past = ltb-false at k e in taken .none past .2 ∙ none-count past
 
           pub none-removed : length w′ ≡ length w →
-              Removes everything (recordsAt (limitsOf w)) (heldCount w + chanceCount w) (entryCount w) apart zeros w w′
+              RemovesFrom everything apart zeros w w′
               (record { entries = f .entries; bytes = f .total; records = a .records; apart = a .bodies })
           none-removed long =
               done-by w′ (a .records) (a .bodies)

@@ -40,7 +40,7 @@ use Rattle.table_view.proofs.Swept.{bodyStays, Within, placed-within, body-size
 use Rattle.table_view.proofs.Summed.{lenMost, everything-stays}
 use Rattle.table_view.proofs.Removed.{label-counts}
 use Rattle.pending_calls.specs.declared.removal.Removed.{Removed}
-use Rattle.pending_calls.specs.Removal.{everything, unexpired, counted, ClosesApart, SkipsWhole, Removes}
+use Rattle.pending_calls.specs.Removal.{everything, unexpired, counted, ClosesApart, SkipsWhole, RemovesFrom}
 use Rattle.pending_calls.proofs.Removals.{removal-done}
 use Rattle.pending_calls.proofs.Removed.{TiedRows, rows-tied, rows-placed, few-bodies, entries-below-records}
 use Rattle.pending_calls.proofs.Removed.{records-within}
@@ -204,7 +204,7 @@ module _ (w b : List ℕ) (ok : wellFormed w (length b) ≡ true) {skip : List �
       removed-by : (q : StayTest) → (kept₀ ≡ told → kept ≡ counted (swept q skip es)) →
           Sweeps q (f .entries) skip w w₁ left →
           ClosesApart p (f .templates + f .chance) apart left kept w₁ w′ r → length w′ ≡ length w →
-          Removes q (recordsAt (limitsOf w)) (heldCount w + chanceCount w) (entryCount w) apart skip w w′ r
+          RemovesFrom q apart skip w w′ r
       removed-by q right s c long =
           removal-done q (recordsAt (limitsOf w)) (heldCount w + chanceCount w) (entryCount w) apart skip w w₁
           w′ kept left r (entries-below-records w (length b) legal, records-within w (length b) legal)
@@ -212,7 +212,7 @@ module _ (w b : List ℕ) (ok : wellFormed w (length b) ≡ true) {skip : List �
 
       pub whole-removed : {q : StayTest} → q ≡ everything → kept ≡ kept₀ → Sweeps q (f .entries) skip w w₁ left →
           ClosesApart p (f .templates + f .chance) apart left kept w₁ w′ r → length w′ ≡ length w →
-          Removes everything (recordsAt (limitsOf w)) (heldCount w + chanceCount w) (entryCount w) apart skip w w′ r
+          RemovesFrom everything apart skip w w′ r
       whole-removed all same s c long =
           removed-by everything (λ is. same ∙ is ∙ counted-whole) (rw all at s) c long
 
@@ -221,7 +221,7 @@ module _ (w b : List ℕ) (ok : wellFormed w (length b) ≡ true) {skip : List �
           kept ≡ set kept₀ apart live → {q : StayTest} → q ≡ unexpired ttl now apart →
           Sweeps q (f .entries) skip w w₁ left →
           ClosesApart p (f .templates + f .chance) apart left kept w₁ w′ r → length w′ ≡ length w →
-          Removes (unexpired ttl now apart) (recordsAt (limitsOf w)) (heldCount w + chanceCount w) (entryCount w) apart
+          RemovesFrom (unexpired ttl now apart) apart
           skip w w′ r
       expired-removed ttl now live stays same test s c long =
           removed-by (unexpired ttl now apart)

@@ -10,7 +10,7 @@ use Rattle.config.specs.Limits.{recordWords}
 use Rattle.config.proofs.Lists.{All}
 use Rattle.table.specs.declared.Entry.{Entry}
 use Rattle.table.specs.declared.TemplateRecord.{TemplateRecord}
-use Rattle.table.specs.Layout.{entriesAt}
+use Rattle.table.specs.Layout.{limitsOf, heldCount, entryCount, chanceCount, entriesAt, recordsAt}
 use Rattle.table.specs.Table.{entriesFrom, recordsFrom, indexFrom}
 use Rattle.table_entries.specs.declared.StayTest.{StayTest}
 use Rattle.table_entries.specs.declared.sweeps.Kept.{Kept}
@@ -66,3 +66,8 @@ pub record Removes (q : StayTest) (p k m apart : ℕ) (skip w w′ : List ℕ) (
   pub head : take entriesAt w′ ≡ take entriesAt w
   pub tail : drop (p + recordWords * k) w′ ≡ drop (p + recordWords * k) w
   pub long : length w′ ≡ length w
+
+-- the same of a whole table: all its entries, and its records, the handed-out one too
+abbrev pub RemovesFrom : StayTest → ℕ → List ℕ → List ℕ → List ℕ → Removed → Type 0
+RemovesFrom q apart skip w w′ r =
+    Removes q (recordsAt (limitsOf w)) (heldCount w + chanceCount w) (entryCount w) apart skip w w′ r

@@ -4,12 +4,12 @@ ghost use mathlib.Core.Bool.{true};
 ghost use Prim.Native.Nat.{_+_, _*_, _≤_};
 ghost use lib.ListN.{length, replicate};
 ghost use Rattle.config.specs.Limits.{recordWords, entryWords};
-ghost use Rattle.table.specs.Layout.{limitsOf, heldCount, entryCount, chanceCount, entriesAt, recordsAt};
+ghost use Rattle.table.specs.Layout.{limitsOf, entriesAt};
 ghost use Rattle.table.specs.Table.{entriesFrom, records, tally};
 ghost use Rattle.table.specs.WellFormed.{wellFormed};
 ghost use Rattle.table_entries.specs.Sweep.{swept};
 ghost use Rattle.pending_flows.specs.Header.{figuresAt};
-ghost use Rattle.pending_calls.specs.Removal.{everything, unexpired, ClosesApart, SkipsWhole, Removes};
+ghost use Rattle.pending_calls.specs.Removal.{everything, unexpired, ClosesApart, SkipsWhole, Removes, RemovesFrom};
 use config::PendingFlowsConfig;
 use config::Ttl;
 use pending_flows::HeaderFigures;
@@ -118,9 +118,7 @@ pub fn remove_whole(
     requires { ⌜ (wellFormed (now words) (length (now bytes)) ≡ true) × (limits ≡ limitsOf (now words)) ⌝ }
     requires { ⌜ (figures ≡ figuresAt (now words)) × SkipsWhole (now skip) (records (now words)) ⌝ }
     ensures { λ r.
-        ⌜ Removes everything (recordsAt (limitsOf (now (words .entry)))) (heldCount (now (words .entry)) + chanceCount
-        (now (words .entry))) (entryCount (now (words .entry))) apart (now (skip .entry)) (now (words .entry))
-        (now (words .exit)) r ⌝ }
+        ⌜ RemovesFrom everything apart (now (skip .entry)) (now (words .entry)) (now (words .exit)) r ⌝ }
 {
     let from = records_at(limits);
     let records = (figures.templates + figures.chance) as usize;
@@ -147,9 +145,7 @@ pub fn remove_expired(
     requires { ⌜ live ≡ tally apart (swept (unexpired (limits .ttl) clock apart) (now skip) (entriesFrom (now words)
         entriesAt (figures .entries))) ⌝ }
     ensures { λ r.
-        ⌜ Removes (unexpired (limits .ttl) clock apart) (recordsAt (limitsOf (now (words .entry)))) (heldCount
-        (now (words .entry)) + chanceCount (now (words .entry))) (entryCount (now (words .entry))) apart
-        (now (skip .entry)) (now (words .entry)) (now (words .exit)) r ⌝ }
+        ⌜ RemovesFrom (unexpired (limits .ttl) clock apart) apart (now (skip .entry)) (now (words .entry)) (now (words .exit)) r ⌝ }
 {
     let from = records_at(limits);
     let records = (figures.templates + figures.chance) as usize;
@@ -175,9 +171,7 @@ pub fn remove_none(
     requires { ⌜ (wellFormed (now words) (length (now bytes)) ≡ true) × (limits ≡ limitsOf (now words)) ⌝ }
     requires { ⌜ (figures ≡ figuresAt (now words)) × (figures .chance ≡ 0) ⌝ }
     ensures { λ r.
-        ⌜ Removes everything (recordsAt (limitsOf (now (words .entry)))) (heldCount (now (words .entry)) + chanceCount
-        (now (words .entry))) (entryCount (now (words .entry))) apart (replicate 1024 0) (now (words .entry))
-        (now (words .exit)) r ⌝ }
+        ⌜ RemovesFrom everything apart (replicate 1024 0) (now (words .entry)) (now (words .exit)) r ⌝ }
 {
     let from = records_at(limits);
     let records = (figures.templates + figures.chance) as usize;

@@ -23,7 +23,7 @@ use Rattle.table_view.proofs.Stored.{legal-limited}
 use Rattle.table_view.proofs.Removed.{placed-short}
 use Rattle.table_view.proofs.Summed.{lenMost}
 use Rattle.pending_calls.specs.declared.removal.Removed.{Removed}
-use Rattle.pending_calls.specs.Removal.{Removes}
+use Rattle.pending_calls.specs.Removal.{RemovesFrom}
 use Rattle.pending_calls.proofs.Removed.{TiedRowsApart, rows-left, placed-left, apart-left, rows-tied, rows-placed}
 use Rattle.pending_calls.proofs.Removed.{bytes-left, few-templates, few-bodies, total-short, entries-below-records}
 
@@ -67,7 +67,7 @@ module _ (w b : List ℕ) (legal : LegalWords w (length b)) where
   held-limited = held-within (cacheOf (tableOf w) b) (legal-limited w b legal)
 
   module _ {q : StayTest} {a : ℕ} {skip w′ : List ℕ} {r : Removed}
-      (done : Removes q (recordsAt (limitsOf w)) (heldCount w + chanceCount w) (entryCount w) a skip w w′ r)
+      (done : RemovesFrom q a skip w w′ r)
     where
       pub removed-tied : TiedRowsApart a (recordsAt (limitsOf w)) (r .records) (r .entries) w′
       removed-tied =

@@ -12,7 +12,7 @@ use Rattle.config.proofs.Lists.{All, all-front}
 use Rattle.table.specs.declared.Entry.{Entry}
 use Rattle.table.specs.declared.TemplateRecord.{TemplateRecord}
 use Rattle.table.specs.declared.LabelFound.the-variants as Label
-use Rattle.table.specs.Layout.{limitsOf, heldCount, entryCount, chanceCount, entriesAt, recordsAt}
+use Rattle.table.specs.Layout.{limitsOf, heldCount, chanceCount, entriesAt, recordsAt}
 use Rattle.table.specs.Table.{tableOf, entriesFrom, recordsFrom, tally}
 use Rattle.table.specs.Reads.{labelOf, labelOrNone, countOf, liveCount}
 use Rattle.table.specs.WellFormed.{wellFormed}
@@ -26,7 +26,7 @@ use Rattle.pending_flows.proofs.Questions.{first-records}
 use Rattle.table_view.proofs.Tied.{words-tied, entries-small, none-above}
 use Rattle.table_view.proofs.AllStay.{none-expired, all-stay, none-skipped}
 use Rattle.pending_calls.specs.declared.removal.Removed.{Removed}
-use Rattle.pending_calls.specs.Removal.{everything, unexpired, Removes}
+use Rattle.pending_calls.specs.Removal.{everything, unexpired, Removes, RemovesFrom}
 use Rattle.pending_calls.proofs.NoneRemoved.{removes-alike, entries-short, all-swept-stay}
 use Rattle.pending_drain.specs.Handing.{zeros, NothingGoes, TakesOut}
 use Rattle.pending_drain.proofs.AsRead.{as-read}
@@ -98,7 +98,7 @@ module _ (w b : List ℕ) (i : ℕ) (ok : wellFormed w (length b) ≡ true) {l :
         (none-expired (l .ttl) clock a es (rw rows at all-live)) (entries-short w (length b) ok)))
 
     pub none-taken : {w′ : List ℕ} {r : Removed} →
-        Removes everything (recordsAt (limitsOf w)) (heldCount w + chanceCount w) (entryCount w) a zeros w w′ r →
+        RemovesFrom everything a zeros w w′ r →
         TakesOut (l .ttl) clock a p f w w′ r
     none-taken {w′} {r} done =
         let whole : swept everything zeros (entriesFrom w entriesAt (f .entries))

@@ -8,7 +8,7 @@ use Rattle.config.specs.declared.PendingFlowsConfig.{PendingFlowsConfig}
 use Rattle.config.specs.Limits.{recordWords}
 use Rattle.table.specs.declared.Entry.{Entry}
 use Rattle.table.specs.declared.TemplateRecord.{TemplateRecord}
-use Rattle.table.specs.Layout.{limitsOf, heldCount, entryCount, chanceCount, entriesAt, recordsAt}
+use Rattle.table.specs.Layout.{limitsOf, heldCount, chanceCount, entriesAt, recordsAt}
 use Rattle.table.specs.Table.{tableOf, entriesFrom, recordsFrom, records, index, tally}
 use Rattle.table.specs.Reads.{labelOf, labelOrNone, liveCount}
 use Rattle.table.specs.WellFormed.{wellFormed}
@@ -20,7 +20,7 @@ use Rattle.pending_flows.specs.declared.header.HeaderFigures.{HeaderFigures}
 use Rattle.pending_flows.specs.Header.{figuresAt}
 use Rattle.table_view.proofs.Tied.{Tied, words-tied}
 use Rattle.pending_calls.specs.declared.removal.Removed.{Removed}
-use Rattle.pending_calls.specs.Removal.{unexpired, SkipsWhole, Removes}
+use Rattle.pending_calls.specs.Removal.{unexpired, SkipsWhole, Removes, RemovesFrom}
 use Rattle.pending_drain.specs.Handing.{zeros, TakesOut}
 use Rattle.pending_drain.proofs.AsRead.{as-read, as-labelled}
 use Rattle.pending_drain.proofs.Handing.{nothing-skipped, taken-out}
@@ -72,7 +72,7 @@ module _ (w b : List ℕ) (i : ℕ) (ok : wellFormed w (length b) ≡ true) {l :
       (bodies-short w b legal) (entries-few w b legal) (handed-single w b legal)))
 
   pub some-taken : {w′ : List ℕ} {r : Removed} →
-      Removes (unexpired (l .ttl) clock a) (recordsAt (limitsOf w)) (heldCount w + chanceCount w) (entryCount w) a skip
+      RemovesFrom (unexpired (l .ttl) clock a) a skip
       w w′ r → TakesOut (l .ttl) clock a p f w w′ r
   some-taken {w′} {r} done =
       taken-out (l .ttl) clock a p f w w′ r skips
@@ -83,7 +83,7 @@ module _ (w b : List ℕ) (i : ℕ) (ok : wellFormed w (length b) ≡ true) {l :
 module _ (w : List ℕ) {l : PendingFlowsConfig} {f : HeaderFigures} {p : ℕ} (limits : l ≡ limitsOf w)
     (figures : f ≡ figuresAt w) (from : p ≡ recordsAt l) (none : f .chance ≡ 0) where
   pub expired-taken : (clock a : ℕ) {w′ : List ℕ} {r : Removed} →
-      Removes (unexpired (l .ttl) clock a) (recordsAt (limitsOf w)) (heldCount w + chanceCount w) (entryCount w) a zeros
+      RemovesFrom (unexpired (l .ttl) clock a) a zeros
       w w′ r → TakesOut (l .ttl) clock a p f w w′ r
   expired-taken clock a {w′} {r} done =
       taken-out (l .ttl) clock a p f w w′ r (nothing-skipped p f w none)

@@ -16,7 +16,7 @@ use Rattle.config.specs.Limits.{maxBodies}
 use Rattle.config.proofs.Lists.{All, all-map}
 use Rattle.table.specs.declared.Entry.{Entry}
 use Rattle.table.specs.declared.TemplateRecord.{TemplateRecord}
-use Rattle.table.specs.Layout.{limitsOf, heldCount, entryCount, chanceCount, entriesAt, recordsAt}
+use Rattle.table.specs.Layout.{limitsOf, entriesAt, recordsAt}
 use Rattle.table.specs.Table.{Table, tableOf, entriesFrom, recordsFrom, indexFrom, hasLabel, tally, sumLens}
 use Rattle.table.specs.WellFormed.{wellFormed}
 use Rattle.table.proofs.Words.{length-records, length-entries}
@@ -43,12 +43,12 @@ use Rattle.table_view.proofs.Added.{has-last, differ-last, newRecord, added-tie
 use Rattle.table_view.proofs.Added.{same-tally, same-labels-apart}
 use Rattle.table_view.proofs.Stored.{tied-legal}
 use Rattle.pending_calls.specs.declared.removal.Removed.{Removed}
-use Rattle.pending_calls.specs.Removal.{Removes}
 use Rattle.offer_plan.specs.declared.plan.OfferPlan.{OfferPlan}
-use Rattle.offer_plan.specs.Plan.{planTest, skipOf, Plans}
+use Rattle.offer_plan.specs.Plan.{Plans}
 use Rattle.pending_offer.specs.Promises.{bodyOf}
 use Rattle.offer_steps.specs.Room.{roomEntries, roomBytes, roomPlace, newEntry, ChoosesLabel}
 use Rattle.offer_steps.proofs.Rooms.{Room, room-made}
+use Rattle.planned_removal.specs.Planned.{RemovesPlanned}
 use Rattle.pending_offer.proofs.Settled.{outcome, settled-limited}
 use Rattle.pending_offer.proofs.Left.{left-placed, left-bytes}
 use Rattle.pending_offer.proofs.Outcomes.{leaves, others, accepted-held}
@@ -93,8 +93,7 @@ pub record Accepting (w b : List ℕ) (l′ : PendingFlowsConfig) (i : ℕ) (bod
   pub small : length body ≤ limitsOf w .«max_entry_size_bytes»
   pub plans : Plans w b i (length body) clock plan
   pub room : plan .full ≡ false
-  pub removed : Removes (planTest (limitsOf w) clock plan) (recordsAt (limitsOf w)) (heldCount w + chanceCount w)
-      (entryCount w) (plan .label) (skipOf w plan) w w₁ left
+  pub removed : RemovesPlanned clock plan (plan .label) w w₁ left
   pub long : length w₁ ≡ length w
   pub label : ChoosesLabel (plan .label) (recordsFrom w₁ (recordsAt l′) (left .records)) a
 

@@ -12,7 +12,7 @@ use Rattle.config.specs.declared.PendingFlowsConfig.{PendingFlowsConfig}
 use Rattle.config.proofs.Lists.{All, all-map, all-both}
 use Rattle.table.specs.declared.Entry.{Entry}
 use Rattle.table.specs.declared.TemplateRecord.{TemplateRecord}
-use Rattle.table.specs.Layout.{limitsOf, heldCount, entryCount, chanceCount, entriesAt, recordsAt}
+use Rattle.table.specs.Layout.{limitsOf, entriesAt, recordsAt}
 use Rattle.table.specs.Table.{tableOf, entriesFrom, recordsFrom, indexFrom, tally}
 use Rattle.table.specs.WellFormed.{wellFormed}
 use Rattle.table.proofs.Words.{length-records}
@@ -33,11 +33,11 @@ use Rattle.table_view.proofs.Tied.{Tied, none-above, words-tied, entries-small,
 use Rattle.table_view.proofs.Removed.{labelCountsBut, labelCounts, none-set}
 use Rattle.table_view.proofs.Summed.{everything}
 use Rattle.pending_calls.specs.declared.removal.Removed.{Removed}
-use Rattle.pending_calls.specs.Removal.{Removes}
 use Rattle.pending_calls.proofs.Removed.{TiedRowsApart}
 use Rattle.offer_plan.specs.declared.plan.OfferPlan.{OfferPlan}
 use Rattle.offer_plan.specs.Plan.{planTest, skipOf, Plans}
 use Rattle.offer_steps.specs.Room.{LabelRoom, ChoosesLabel}
+use Rattle.planned_removal.specs.Planned.{RemovesPlanned}
 use Rattle.pending_offer.proofs.Settled.{outcome, settled-limited}
 use Rattle.pending_offer.proofs.Left.{staying, held-legal, bodies-left, templates-left}
 use Rattle.pending_offer.proofs.Left.{left-rows, left-apart, left-entries, left-records}
@@ -124,8 +124,7 @@ module _ (w b : List ℕ) (ok : wellFormed w (length b) ≡ true) (i : ℕ) (x :
       kept = labelCountsBut (plan .label) stay
 
   module _ (room : plan .full ≡ false) {w₁ : List ℕ} {left : Removed}
-      (done : Removes (planTest (limitsOf w) (x .clock) plan) (recordsAt (limitsOf w)) (heldCount w + chanceCount w)
-      (entryCount w) (plan .label) (skipOf w plan) w w₁ left) where
+      (done : RemovesPlanned (x .clock) plan (plan .label) w w₁ left) where
     abbrev from : ℕ
     from = recordsAt (limitsOf w)
 

@@ -41,12 +41,12 @@ use Rattle.table_view.proofs.Closed.{Left, closed-templates, closed-append, clo
 use Rattle.table_view.proofs.Removed.{labelCounts, labelCountsBut, label-counts, none-set, placed-short}
 use Rattle.table_view.proofs.Summed.{lenMost}
 use Rattle.pending_calls.specs.declared.removal.Removed.{Removed}
-use Rattle.pending_calls.specs.Removal.{Removes}
 use Rattle.pending_calls.proofs.Removed.{TiedRowsApart, placed-left, apart-left, rows-left, rows-tied}
 use Rattle.pending_calls.proofs.Removed.{bytes-left, rows-placed, few-templates, few-bodies, total-short}
 use Rattle.offer_plan.specs.declared.plan.OfferPlan.{OfferPlan}
 use Rattle.offer_plan.specs.Plan.{planTest, skipOf, Plans}
 use Rattle.offer_plan.proofs.Skips.{skips-long}
+use Rattle.planned_removal.specs.Planned.{RemovesPlanned}
 
 -- the entries that stay by a plan
 abbrev pub staying : List ℕ → ℕ → OfferPlan → List Entry
@@ -220,8 +220,7 @@ module _ (w b : List ℕ) (ok : wellFormed w (length b) ≡ true) (clock : ℕ) 
 -- the rows after the removal: the words that are left
 module _ (w b : List ℕ) (ok : wellFormed w (length b) ≡ true) (i clock len apart : ℕ) {plan : OfferPlan}
     (plans : Plans w b i len clock plan) {w₁ : List ℕ} {left : Removed}
-    (done : Removes (planTest (limitsOf w) clock plan) (recordsAt (limitsOf w)) (heldCount w + chanceCount w)
-    (entryCount w) apart (skipOf w plan) w w₁ left) where
+    (done : RemovesPlanned clock plan apart w w₁ left) where
   abbrev most : ℕ
   most = limitsOf w .«max_total_bytes»
 

@@ -11,7 +11,7 @@ use Rattle.areas.specs.Overwrite.{overwritten}
 use Rattle.config.specs.declared.PendingFlowsConfig.{PendingFlowsConfig}
 use Rattle.config.specs.Limits.{headerWords}
 use Rattle.config.proofs.Lists.{all-both}
-use Rattle.table.specs.Layout.{limitsOf, heldCount, entryCount, chanceCount, entriesAt, recordsAt}
+use Rattle.table.specs.Layout.{limitsOf, entriesAt, recordsAt}
 use Rattle.table.specs.Table.{tableOf, entriesFrom, recordsFrom}
 use Rattle.table.specs.WellFormed.{wellFormed}
 use Rattle.table.proofs.Words.{length-entries}
@@ -25,13 +25,13 @@ use Rattle.pending_flows.specs.Header.{figuresAt, headerOf}
 use Rattle.table_view.proofs.Tied.{no-label-tied}
 use Rattle.pending_calls.specs.declared.removal.Removed.{Removed}
 use Rattle.pending_calls.specs.Promises.{Does}
-use Rattle.pending_calls.specs.Removal.{Removes}
 use Rattle.pending_calls.proofs.Removed.{TiedRows}
 use Rattle.offer_plan.specs.declared.plan.OfferPlan.{OfferPlan}
-use Rattle.offer_plan.specs.Plan.{planTest, skipOf, Plans}
+use Rattle.offer_plan.specs.Plan.{Plans}
 use Rattle.pending_offer.specs.Promises.{bodyOf}
 use Rattle.offer_steps.specs.Settle.{settledFigures}
 use Rattle.offer_steps.proofs.HeldBodies.{held-most}
+use Rattle.planned_removal.specs.Planned.{RemovesPlanned}
 use Rattle.pending_offer.proofs.Settled.{outcome, drops-counted, settled-does}
 use Rattle.pending_offer.proofs.Left.{held-legal, left-rows, left-placed, left-bytes, left-entries}
 use Rattle.pending_offer.proofs.Left.{left-records, left-behind, staying, bodies-left, templates-left}
@@ -46,8 +46,7 @@ pub record Refusing (w b : List ℕ) (l′ : PendingFlowsConfig) (i : ℕ) (body
   pub small : length body ≤ limitsOf w .«max_entry_size_bytes»
   pub plans : Plans w b i (length body) clock plan
   pub full : plan .full ≡ true
-  pub removed : Removes (planTest (limitsOf w) clock plan) (recordsAt (limitsOf w)) (heldCount w + chanceCount w)
-      (entryCount w) 1024 (skipOf w plan) w w₁ left
+  pub removed : RemovesPlanned clock plan 1024 w w₁ left
   pub long : length w₁ ≡ length w
 
 module _ {w b : List ℕ} {l′ : PendingFlowsConfig} {i : ℕ} {body : List ℕ} {clock : ℕ} {plan : OfferPlan}

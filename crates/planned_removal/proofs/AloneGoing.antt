@@ -25,10 +25,11 @@ use Rattle.table_records.specs.Choose.{skipAll, setEach, skipping}
 use Rattle.pending_flows.specs.declared.header.HeaderFigures.{HeaderFigures}
 use Rattle.pending_flows.specs.Header.{figuresAt}
 use Rattle.pending_calls.specs.declared.removal.Removed.{Removed}
-use Rattle.pending_calls.specs.Removal.{everything, unexpired, Removes}
+use Rattle.pending_calls.specs.Removal.{everything, unexpired, Removes, RemovesFrom}
 use Rattle.pending_calls.proofs.NoneRemoved.{records-inside}
 use Rattle.offer_plan.specs.declared.plan.OfferPlan.{OfferPlan}
 use Rattle.offer_plan.specs.Plan.{planTest, skipOf}
+use Rattle.planned_removal.specs.Planned.{RemovesPlanned}
 use Rattle.planned_removal.specs.Alone.{GoesAlone, OnlyExpired}
 use Rattle.planned_removal.proofs.PlannedRemoval.{whole-planned}
 
@@ -93,10 +94,9 @@ held-inside w n ok f is l limits p from = omega (arith, records-inside w n ok f 
 -- the removal of the one template is the planned one
 pub alone-removed : (w b : List ℕ) (ok : wellFormed w (length b) ≡ true) (clock apart label : ℕ) (plan : OfferPlan)
     {w′ : List ℕ} {r : Removed} → (label < 1024 → GoesAlone w plan label) → label < 1024 →
-    Removes everything (recordsAt (limitsOf w)) (heldCount w + chanceCount w) (entryCount w) apart
+    RemovesFrom everything apart
     (set (replicate 1024 0) label skipAll) w w′ r →
-    Removes (planTest (limitsOf w) clock plan) (recordsAt (limitsOf w)) (heldCount w + chanceCount w) (entryCount w)
-    apart (skipOf w plan) w w′ r
+    RemovesPlanned clock plan apart w w′ r
 alone-removed w b ok clock apart label plan alone small done =
     let goes = alone small in
     whole-planned w b ok clock apart plan refl (goes .no-ttl) (sym (goes .skips)) done
@@ -117,10 +117,9 @@ module _ (f : HeaderFigures) (plan : OfferPlan) (apart : ℕ) where
 pub expired-alone : (w : List ℕ) (clock apart : ℕ) (plan : OfferPlan) {f : HeaderFigures} {l : PendingFlowsConfig}
     {w′ : List ℕ} {r : Removed} → f ≡ figuresAt w → l ≡ limitsOf w → (t : Bool) →
     (t ≡ true → OnlyExpired f plan apart) → t ≡ true →
-    Removes (unexpired (l .ttl) clock apart) (recordsAt (limitsOf w)) (heldCount w + chanceCount w) (entryCount w) apart
+    RemovesFrom (unexpired (l .ttl) clock apart) apart
     (replicate 1024 0) w w′ r →
-    Removes (planTest (limitsOf w) clock plan) (recordsAt (limitsOf w)) (heldCount w + chanceCount w) (entryCount w)
-    apart (skipOf w plan) w w′ r
+    RemovesPlanned clock plan apart w w′ r
 expired-alone w clock apart plan {l = l} {w′} {r} figures limits t certainly holds done =
     let only = certainly holds in
     let p = recordsAt (limitsOf w) in

@@ -11,7 +11,7 @@ use Rattle.config.proofs.Limits.{cap-small}
 use Rattle.config.proofs.Lists.{All, all-map}
 use Rattle.table.specs.declared.Entry.{Entry}
 use Rattle.table.specs.declared.TemplateRecord.{TemplateRecord}
-use Rattle.table.specs.Layout.{limitsOf, heldCount, entryCount, chanceCount, recordsAt}
+use Rattle.table.specs.Layout.{limitsOf, heldCount, recordsAt}
 use Rattle.table.specs.Table.{tableOf, records}
 use Rattle.table.specs.WellFormed.{wellFormed}
 use Rattle.table.proofs.Facts.{LegalRecord, words-say}
@@ -23,27 +23,26 @@ use Rattle.table_records.specs.Choose.{skipAll, setEach, skipping}
 use Rattle.pending_flows.specs.declared.header.HeaderFigures.{HeaderFigures}
 use Rattle.pending_flows.specs.Header.{figuresAt}
 use Rattle.pending_calls.specs.declared.removal.Removed.{Removed}
-use Rattle.pending_calls.specs.Removal.{everything, SkipsWhole, Removes}
+use Rattle.pending_calls.specs.Removal.{everything, SkipsWhole, Removes, RemovesFrom}
 use Rattle.pending_calls.proofs.NoneRemoved.{removes-alike, all-swept-stay}
 use Rattle.offer_plan.specs.declared.plan.OfferPlan.{OfferPlan}
 use Rattle.offer_plan.specs.Plan.{planTest, skipOf, KeepsAll}
 use Rattle.offer_plan.proofs.Skips.{skips-long}
+use Rattle.planned_removal.specs.Planned.{RemovesPlanned}
 
 module _ (w : List ℕ) (n : ℕ) (ok : wellFormed w n ≡ true) (clock apart : ℕ) (plan : OfferPlan) {w′ : List ℕ}
     {r : Removed} where
   -- where nothing goes
   pub none-planned : KeepsAll w clock plan → plan .none ≡ true →
-      Removes everything (recordsAt (limitsOf w)) (heldCount w + chanceCount w) (entryCount w) apart (replicate 1024 0)
+      RemovesFrom everything apart (replicate 1024 0)
       w w′ r →
-      Removes (planTest (limitsOf w) clock plan) (recordsAt (limitsOf w)) (heldCount w + chanceCount w) (entryCount w)
-      apart (skipOf w plan) w w′ r
+      RemovesPlanned clock plan apart w w′ r
   none-planned keeps none done = removes-alike (all-swept-stay w n ok ∙ sym (keeps none)) done
 
   pub removed-planned : (f : HeaderFigures) (l : PendingFlowsConfig) (p : ℕ) (t : StayTest) (skip : List ℕ) →
       f ≡ figuresAt w → l ≡ limitsOf w → p ≡ recordsAt l → t ≡ planTest l clock plan → skip ≡ skipOf w plan →
       Removes t p (f .templates + f .chance) (f .entries) apart skip w w′ r →
-      Removes (planTest (limitsOf w) clock plan) (recordsAt (limitsOf w)) (heldCount w + chanceCount w) (entryCount w)
-      apart (skipOf w plan) w w′ r
+      RemovesPlanned clock plan apart w w′ r
   removed-planned f l p t skip is limits from test skips done = rw (test, skips, is, from, limits) at done
 
 -- ---- only whole templates go
@@ -98,9 +97,8 @@ module _ (w b : List ℕ) (ok : wellFormed w (length b) ≡ true) (clock apart :
 
   pub whole-planned : {l : PendingFlowsConfig} {skip w′ : List ℕ} {r : Removed} → l ≡ limitsOf w → l .ttl ≡ None →
       skip ≡ skipOf w plan →
-      Removes everything (recordsAt (limitsOf w)) (heldCount w + chanceCount w) (entryCount w) apart skip w w′ r →
-      Removes (planTest (limitsOf w) clock plan) (recordsAt (limitsOf w)) (heldCount w + chanceCount w) (entryCount w)
-      apart (skipOf w plan) w w′ r
+      RemovesFrom everything apart skip w w′ r →
+      RemovesPlanned clock plan apart w w′ r
   whole-planned limits none skips done =
       let ttl : limitsOf w .ttl ≡ None = ap (λ (c : PendingFlowsConfig). c .ttl) (sym limits) ∙ none in
       removes-alike

@@ -3,11 +3,11 @@ ghost use mathlib.Core.Path.{_≡_};
 ghost use mathlib.Core.Bool.{true};
 ghost use Prim.Native.Nat.{_+_, _≤_, _<_};
 ghost use lib.ListN.{length};
-ghost use Rattle.table.specs.Layout.{limitsOf, heldCount, entryCount, chanceCount, recordsAt};
+ghost use Rattle.table.specs.Layout.{limitsOf, heldCount};
 ghost use Rattle.table.specs.WellFormed.{wellFormed};
 ghost use Rattle.pending_flows.specs.Header.{figuresAt};
-ghost use Rattle.pending_calls.specs.Removal.{Removes};
-ghost use Rattle.offer_plan.specs.Plan.{planTest, skipOf, KeepsAll};
+ghost use Rattle.offer_plan.specs.Plan.{planTest, KeepsAll};
+ghost use Rattle.planned_removal.specs.Planned.{RemovesPlanned};
 ghost use Rattle.planned_removal.specs.Alone.{GoesAlone, OnlyExpired};
 use config::PendingFlowsConfig;
 use config::Ttl;
@@ -53,9 +53,7 @@ fn remove_skipped(
     requires { ⌜ (wellFormed (now words) (length (now bytes)) ≡ true) × (limits ≡ limitsOf (now words)) ⌝ }
     requires { ⌜ (figures ≡ figuresAt (now words)) × (plan .evicted ≤ heldCount (now words)) ⌝ }
     ensures { λ r.
-        ⌜ Removes (planTest (limitsOf (now (words .entry))) clock plan) (recordsAt (limitsOf (now (words .entry))))
-        (heldCount (now (words .entry)) + chanceCount (now (words .entry))) (entryCount (now (words .entry))) apart
-        (skipOf (now (words .entry)) plan) (now (words .entry)) (now (words .exit)) r ⌝ }
+        ⌜ RemovesPlanned clock plan apart (now (words .entry)) (now (words .exit)) r ⌝ }
 {
     let mut skip = [0u32; LABELS];
     skip_planned(words, bytes, limits, figures, plan, &mut skip);
@@ -140,9 +138,7 @@ fn remove_some(
     requires { ⌜ (wellFormed (now words) (length (now bytes)) ≡ true) × (limits ≡ limitsOf (now words)) ⌝ }
     requires { ⌜ (figures ≡ figuresAt (now words)) × (plan .evicted ≤ heldCount (now words)) ⌝ }
     ensures { λ r.
-        ⌜ Removes (planTest (limitsOf (now (words .entry))) clock plan) (recordsAt (limitsOf (now (words .entry))))
-        (heldCount (now (words .entry)) + chanceCount (now (words .entry))) (entryCount (now (words .entry))) apart
-        (skipOf (now (words .entry)) plan) (now (words .entry)) (now (words .exit)) r ⌝ }
+        ⌜ RemovesPlanned clock plan apart (now (words .entry)) (now (words .exit)) r ⌝ }
 {
     let label = alone_label(words, bytes, limits, figures, plan);
     if label < (LABELS as u64) {
@@ -168,9 +164,7 @@ pub fn remove_planned(
     requires { ⌜ (figures ≡ figuresAt (now words)) × (plan .evicted ≤ heldCount (now words)) ⌝ }
     requires { ⌜ KeepsAll (now words) clock plan × (plan .none ≡ true → figures .chance ≡ 0) ⌝ }
     ensures { λ r.
-        ⌜ Removes (planTest (limitsOf (now (words .entry))) clock plan) (recordsAt (limitsOf (now (words .entry))))
-        (heldCount (now (words .entry)) + chanceCount (now (words .entry))) (entryCount (now (words .entry))) apart
-        (skipOf (now (words .entry)) plan) (now (words .entry)) (now (words .exit)) r ⌝ }
+        ⌜ RemovesPlanned clock plan apart (now (words .entry)) (now (words .exit)) r ⌝ }
 {
     if plan.none {
         return remove_none(words, bytes, limits, figures, apart);

@@ -39,7 +39,7 @@ use Rattle.pending_flows.specs.Header.{figuresAt}
 use Rattle.table_view.proofs.Removed.{label-counts, none-set}
 use Rattle.table_view.proofs.Summed.{lenMost}
 use Rattle.table_view.proofs.Tied.{entries-small, none-past}
-use Rattle.pending_calls.specs.Removal.{everything, unexpired, counted, countedBut, Removes}
+use Rattle.pending_calls.specs.Removal.{everything, unexpired, counted, countedBut, Removes, RemovesFrom}
 use Rattle.pending_calls.proofs.NoneRemoved.{entries-short}
 use Rattle.pending_calls.proofs.Removals.{removal-done, closed-apart}
 use Rattle.pending_calls.proofs.Removed.{TiedRows, rows-tied, few-templates, entries-below-records, records-within}
@@ -259,8 +259,7 @@ module _ (w : List ℕ) (n : ℕ) (ok : wellFormed w n ≡ true) (now label : �
     went-of-label = rw figures (went-counted w n ok (l .ttl) now label swept-read taken-read)
 
     pub expired-removed : length w₂ ≡ length w →
-        Removes (unexpired (l .ttl) now label) (recordsAt (limitsOf w)) (heldCount w + chanceCount w) (entryCount w)
-        label (replicate 1024 0) w w₂
+        RemovesFrom (unexpired (l .ttl) now label) label (replicate 1024 0) w w₂
         (record {
           entries = left .entries;
           bytes = left .bytes;

@@ -46,7 +46,7 @@ use Rattle.table_view.proofs.AllStay.{all-stay}
 use Rattle.table_view.proofs.Removed.{label-counts, none-set}
 use Rattle.table_view.proofs.Summed.{lenMost}
 use Rattle.table_view.proofs.Tied.{entries-small}
-use Rattle.pending_calls.specs.Removal.{everything, unexpired, counted, countedBut, Removes}
+use Rattle.pending_calls.specs.Removal.{everything, unexpired, counted, countedBut, Removes, RemovesFrom}
 use Rattle.pending_calls.proofs.NoneRemoved.{entries-short}
 use Rattle.pending_calls.proofs.Removals.{removal-done, closed-apart}
 use Rattle.pending_calls.proofs.Removed.{TiedRows, rows-tied, few-templates, entries-below-records, records-within}
@@ -287,7 +287,7 @@ module _ (w : List ℕ) (n : ℕ) (ok : wellFormed w n ≡ true) (label apart : 
   pub template-removed : q ≡ unexpired (After 0) 0 label → SweepsBy (stays q) (f .entries) w w₁ left →
       TakesLabel label p (f .templates + f .chance) w₁ w₂ a → TakesLabel apart p (a .records) w₂ w₃ b →
       length w₃ ≡ length w →
-      Removes everything (recordsAt (limitsOf w)) (heldCount w + chanceCount w) (entryCount w) apart
+      RemovesFrom everything apart
       (set (replicate 1024 0) label skipAll) w w₃
       (record { entries = left .entries; bytes = left .bytes; records = b .records; apart = b .bodies })
   template-removed test s t u long =

@@ -3,10 +3,10 @@ ghost use mathlib.Core.Path.{_≡_};
 ghost use mathlib.Core.Bool.{true};
 ghost use Prim.Native.Nat.{_+_};
 ghost use lib.ListN.{length, replicate};
-ghost use Rattle.table.specs.Layout.{limitsOf, heldCount, entryCount, chanceCount, recordsAt};
+ghost use Rattle.table.specs.Layout.{limitsOf};
 ghost use Rattle.table.specs.WellFormed.{wellFormed};
 ghost use Rattle.pending_flows.specs.Header.{figuresAt};
-ghost use Rattle.pending_calls.specs.Removal.{unexpired, Removes};
+ghost use Rattle.pending_calls.specs.Removal.{unexpired, RemovesFrom};
 use config::PendingFlowsConfig;
 use entry_sweeps::sweep_staying;
 use pending_calls::Removed;
@@ -28,9 +28,7 @@ pub fn remove_expired_of(
     requires { ⌜ (wellFormed (now words) (length (now bytes)) ≡ true) × (limits ≡ limitsOf (now words)) ⌝ }
     requires { ⌜ figures ≡ figuresAt (now words) ⌝ }
     ensures { λ r.
-        ⌜ Removes (unexpired (limits .ttl) clock label) (recordsAt (limitsOf (now (words .entry)))) (heldCount
-        (now (words .entry)) + chanceCount (now (words .entry))) (entryCount (now (words .entry))) label
-        (replicate 1024 0) (now (words .entry)) (now (words .exit)) r ⌝ }
+        ⌜ RemovesFrom (unexpired (limits .ttl) clock label) label (replicate 1024 0) (now (words .entry)) (now (words .exit)) r ⌝ }
 {
     let from = records_at(limits);
     let records = (figures.templates + figures.chance) as usize;

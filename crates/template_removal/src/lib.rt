@@ -5,11 +5,11 @@ ghost use mathlib.Core.Path.{_≡_};
 ghost use mathlib.Core.Bool.{true};
 ghost use Prim.Native.Nat.{_+_};
 ghost use lib.ListN.{length, set, replicate};
-ghost use Rattle.table.specs.Layout.{limitsOf, heldCount, entryCount, chanceCount, recordsAt};
+ghost use Rattle.table.specs.Layout.{limitsOf};
 ghost use Rattle.table.specs.WellFormed.{wellFormed};
 ghost use Rattle.table_records.specs.Choose.{skipAll};
 ghost use Rattle.pending_flows.specs.Header.{figuresAt};
-ghost use Rattle.pending_calls.specs.Removal.{everything, Removes};
+ghost use Rattle.pending_calls.specs.Removal.{everything, RemovesFrom};
 use config::PendingFlowsConfig;
 use config::Ttl;
 use entry_sweeps::sweep_staying;
@@ -33,9 +33,7 @@ pub fn remove_template(
     requires { ⌜ (wellFormed (now words) (length (now bytes)) ≡ true) × (limits ≡ limitsOf (now words)) ⌝ }
     requires { ⌜ figures ≡ figuresAt (now words) ⌝ }
     ensures { λ r.
-        ⌜ Removes everything (recordsAt (limitsOf (now (words .entry)))) (heldCount (now (words .entry)) + chanceCount
-        (now (words .entry))) (entryCount (now (words .entry))) apart (set (replicate 1024 0) label skipAll)
-        (now (words .entry)) (now (words .exit)) r ⌝ }
+        ⌜ RemovesFrom everything apart (set (replicate 1024 0) label skipAll) (now (words .entry)) (now (words .exit)) r ⌝ }
 {
     let from = records_at(limits);
     let records = (figures.templates + figures.chance) as usize;
