@@ -1,11 +1,11 @@
--- A move within a list, one element at a time, and what it leaves. Assumes nothing.
+-- A move within a list, by single elements and by blocks, and what it leaves. Assumes nothing.
 use mathlib.Core.Path.{_≡_, refl, sym, ap, _∙_}
 use mathlib.Core.List.{List, _++_, append-assoc}
 use Prim.Native.Nat.{ℕ, suc, _+_, _-_, _≤_, _<_}
 use native.Mathlib.Nat.{add-zero, add-suc, suc-add}
 use native.Mathlib.Numerals.{add-one}
 use native.Mathlib.Omega.{arith}
-use lib.ListN.{length, getD, take, drop, set, length-set, length-drop}
+use lib.ListN.{length, getD, take, drop, set, length-set, length-drop, take-append-drop}
 use lib.Seq.{length-take-le, take-at, getD-take, getD-drop, take-suc, drop-cons, append-snoc, set-at}
 use lib.Seq.{paste, paste-zero, paste-suc, take-paste, take-add, drop-drop}
 use borrow.Rule.Slice.PartMut.{midOf}
@@ -20,7 +20,7 @@ module _ (from to n : ℕ) (xs : List ℕ) (source : from + n ≤ length xs) whe
   length-source = length-part from n xs source
 
   -- a move puts the source's elements into the target's place
-  pub moved-puts : moved from to n xs ≡ putAt to (take n (drop from xs)) xs
+  moved-puts : moved from to n xs ≡ putAt to (take n (drop from xs)) xs
   unfolding moved putAt
   moved-puts = rw length-source
 
@@ -68,6 +68,12 @@ moved-pastes from to n xs = rw append-assoc
 pub moved-none : (from to : ℕ) (xs : List ℕ) → xs ≡ moved from to 0 xs
 moved-none from to xs = paste-zero xs to (drop from xs) ∙ sym (moved-pastes from to 0 xs)
 
+-- nothing changes where source and target are the same place
+pub moved-to-itself : (from to n : ℕ) (xs : List ℕ) → to ≡ from → xs ≡ moved from to n xs
+unfolding moved
+moved-to-itself from to n xs same =
+    rw (same, ← drop-drop n from xs, take-append-drop n (drop from xs), take-append-drop from xs)
+
 -- one more at the back of what is moved
 moved-suc : (from to i : ℕ) (xs : List ℕ) → from + i < length xs → to + i < length xs →
     set (moved from to i xs) (to + i) (getD xs (from + i) 0) ≡ moved from to (suc i) xs
@@ -105,16 +111,6 @@ module _ (from to k n : ℕ) (xs : List ℕ) (down : to ≤ from) (source : from
   moved-on =
       parts-moved (moved from to k xs) front-moved (unmoved (from + k) (omega arith))
       (unmoved (to + k + n) (omega arith))
-
--- the same by the steps of a call
-module _ (from to len k : ℕ) (area area₁ area₂ : List ℕ) (first : area₁ ≡ moved from to k area) (down : to ≤ from)
-    (source : from + len ≤ length area) (few : k ≤ len) where
-  pub parts-make-whole : area₂ ≡ moved (from + k) (to + k) (len - k) area₁ → area₂ ≡ moved from to len area
-  parts-make-whole second =
-      let whole : k + (len - k) ≡ len = omega arith in
-      second ∙ ap (moved (from + k) (to + k) (len - k)) first
-      ∙ moved-on from to k (len - k) area down (omega arith)
-      ∙ rw whole
 
 -- a block that is read whole into a longer array, and then written
 module _ (from to len : ℕ) (area zeros block : List ℕ) (source : from + len ≤ length area)
@@ -200,7 +196,10 @@ module _ {area₀ area : List ℕ} {from to len done : ℕ} (inv : MovedDown are
   pub rest-moved-down : (area′ : List ℕ) → area′ ≡ moved (from + done) (to + done) (len - done) area →
       area′ ≡ moved from to len area₀
   rest-moved-down area′ e =
-      parts-make-whole from to len done area₀ area area′ (inv .now-is) (inv .downwards) (inv .source) (inv .passed) e
+      let whole : done + (len - done) ≡ len = omega (arith, inv .passed) in
+      e ∙ ap (moved (from + done) (to + done) (len - done)) (inv .now-is)
+      ∙ moved-on from to done (len - done) area₀ (inv .downwards) (omega (arith, inv .source, inv .passed))
+      ∙ rw whole
 
   pub all-moved-down : len ≤ done → area ≡ moved from to len area₀
   all-moved-down h = let z : done ≡ len = omega arith in inv .now-is ∙ rw z

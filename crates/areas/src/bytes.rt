@@ -7,11 +7,12 @@ ghost use Rattle.areas.specs.Overwrite.{moved, overwritten, putAt};
 // The most bytes that are read before the first of them is written.
 const BLOCK: usize = 2048;
 
-// Fewer are quicker in an area that is longer than this, and most of all where source and target lie nearly a page
-// apart (docs/BENCHMARKS.md).
-const LONG_AREA: usize = 524288;
-
+// As many in a long area, where fewer are quicker: most of all where source and target lie a few bytes less than whole
+// pages apart (docs/BENCHMARKS.md).
 const SHORT_BLOCK: usize = 512;
+
+// A longer area is a long one: the processor's own caches do not hold it.
+const LONG_AREA: usize = 524288;
 
 // Copies all of `from` to the front of `to`.
 pub fn copy_bytes(to: &mut [u8], from: &[u8])
@@ -46,7 +47,8 @@ fn move_block(area: &mut [u8], from: usize, to: usize, len: usize)
     write_body(area, to, &block[..len]);
 }
 
-// How many bytes a move within an area of so many reads at once.
+// How many bytes a move within an area of so many reads at once. Any number that an array holds would do, so none is
+// promised.
 fn block_in(area: usize) -> usize
     ensures { λ r. ⌜ (0 < r) × (r ≤ 2048) ⌝ }
 {
@@ -56,12 +58,15 @@ fn block_in(area: usize) -> usize
     BLOCK
 }
 
-// Moves `len` bytes to a lower place, or to the same one: from the front, so that a block is read before it is
-// overwritten.
+// Moves `len` bytes to a lower place: from the front, so that a block is read before it is overwritten. To the same
+// place nothing is copied, as bodies before the first gap may be many.
 pub fn move_bytes_down(area: &mut [u8], from: usize, to: usize, len: usize)
     requires { ⌜ (from + len ≤ length (now area)) × (to ≤ from) ⌝ }
     ensures { λ _. ⌜ now (area .exit) ≡ moved from to len (now (area .entry)) ⌝ }
 {
+    if to == from {
+        return;
+    }
     let block = block_in(area.len());
     let mut done: usize = 0;
     while len - done > block {

@@ -1,5 +1,5 @@
-// Copying into the lent areas and moving within them: the same functions for bytes and for words, over the same
-// definitions and laws.
+// Copying into the lent areas and moving within them, over one set of definitions and laws: words one at a time, to a
+// lower or a higher place, and bytes by blocks, to a lower one.
 mod bytes;
 mod words;
 

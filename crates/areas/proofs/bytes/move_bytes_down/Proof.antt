@@ -1,6 +1,7 @@
 use Prim.Native.Nat.{_-_}
 use borrow.Author.Needs.{needs}
 use Rattle.areas.proofs.Moves.{MovedDown, none-moved-down, more-moved-down, rest-moved-down}
+use Rattle.areas.proofs.Moves.{moved-to-itself}
 use Rattle.areas.proofs.bytes.move_bytes_down.Statement.{statement}
 use Rattle.areas.proofs.bytes.move_bytes_down.Tie as tie
 
@@ -9,6 +10,9 @@ Inv-loop area₀ from to len block done₀ area done = MovedDown area₀ from to
 
 abbrev μ-loop : tie.MeasureT-loop
 μ-loop area₀ from to len block done₀ area done = len - done
+
+returns : tie.Need-returns Inv-loop μ-loop
+returns c = search (moved-to-itself, needs)
 
 block-in-requires : tie.Need-block-in-requires Inv-loop μ-loop
 block-in-requires c κs = search needs
@@ -54,8 +58,8 @@ move-block-requires-2 c κs = search needs
 same-length : tie.Need-same-length Inv-loop μ-loop
 same-length c = search needs
 
-returns : tie.Need-returns Inv-loop μ-loop
-returns c = search (rest-moved-down, needs)
+returns-2 : tie.Need-returns-2 Inv-loop μ-loop
+returns-2 c = search (rest-moved-down, needs)
 
 pub move-bytes-down-spec : {M : Type 1} → statement M
 move-bytes-down-spec =
@@ -63,6 +67,7 @@ move-bytes-down-spec =
     (tie.spec
     Inv-loop
     μ-loop
+    returns
     block-in-requires
     loop-holds
     sub-loop
@@ -77,4 +82,4 @@ move-bytes-down-spec =
     sub-move-block
     move-block-requires-2
     same-length
-    returns)
+    returns-2)
