@@ -16,7 +16,7 @@ use Rattle.table.specs.WellFormed.{placesLegal}
 use Rattle.table.proofs.Words.{entries-first, entries-none}
 use Rattle.table.proofs.Facts.{Placed, places-say}
 use Rattle.table_entries.specs.declared.pack.Run.{Run}
-use Rattle.table_entries.specs.Pack.{packedEntries, packedEnd, packedBytes, ReachesTo, Packs}
+use Rattle.table_entries.specs.Pack.{packedEntries, packedEnd, packedBytes, MovesRun, ReachesTo, Packs}
 use Rattle.table_entries.proofs.Frames.{entries-below, entries-above, entries-more}
 use Rattle.table_entries.proofs.Packed.{placedAt}
 
@@ -32,15 +32,16 @@ place-stored w p at room =
     )
 
 -- a run that is moved, and the next one
-pub run-moved : (place : ℕ) (run : Run) (b b′ : List ℕ) → run .to ≤ run .from → run .from + run .len ≤ place →
-    place ≤ length b → b′ ≡ moved (run .from) (run .to) (run .len) b →
-    ReachesTo place run b b′ (record { from = place; to = run .to + run .len; len = 0 })
-run-moved place run b b′ down before within moves = record {
+pub run-moved : (place : ℕ) (run : Run) (b b′ : List ℕ) (end : ℕ) → run .to ≤ run .from →
+    run .from + run .len ≤ place → place ≤ length b → MovesRun run b b′ end →
+    ReachesTo place run b b′ (record { from = place; to = end; len = 0 })
+run-moved place run b b′ end down before within moves = record {
   reaches = omega arith;
-  behind = omega arith;
-  down = omega arith;
-  bytes = sym (moved-none place (run .to + run .len) b′) ∙ moves;
-  length-same = ap length moves ∙ length-moved (run .from) (run .to) (run .len) b (omega arith) (omega arith);
+  behind = omega (arith, moves .end);
+  down = omega (arith, moves .end);
+  bytes = sym (moved-none place end b′) ∙ moves .bytes;
+  length-same = ap length (moves .bytes)
+      ∙ length-moved (run .from) (run .to) (run .len) b (omega arith) (omega arith);
 }
 
 -- `left` entries are left, from word p on; those passed are packed, but that the run is still to be moved
@@ -91,16 +92,16 @@ module _ (entries : ℕ) where
     pub target-within : run .to + run .len ≤ length b
     target-within = omega (arith, inv .down, inv .source)
 
-    pub all-packed-up : left ≤ 0 → (b′ : List ℕ) → b′ ≡ moved (run .from) (run .to) (run .len) b →
-        Packs entries w₀ b₀ w b′ (run .to + run .len)
+    pub all-packed-up : left ≤ 0 → (b′ : List ℕ) (end : ℕ) → MovesRun run b b′ end →
+        Packs entries w₀ b₀ w b′ end
     unfolding packedEntries packedBytes packedEnd
-    all-packed-up h b′ moves =
+    all-packed-up h b′ end moves =
         let none = entries-none w p left h in
         let z : entries - left ≡ entries = omega arith in
         record {
           entries = sym (append-nil (entriesFrom w entriesAt entries)) ∙ (rw (none, z) at (inv .rest));
-          bytes = moves ∙ (rw none at (inv .rest-bytes));
-          end = rw none at (inv .rest-end);
+          bytes = moves .bytes ∙ (rw none at (inv .rest-bytes));
+          end = moves .end ∙ (rw none at (inv .rest-end));
           head = inv .head;
           tail = inv .tail;
         }

@@ -32,6 +32,11 @@ unfoldable pub packedBytes : ℕ → List Entry → List ℕ → List ℕ
 packedBytes at [] bs = bs
 packedBytes at (e ∷ es) bs = packedBytes (at + e .len) es (moved (e .place) at (e .len) bs)
 
+-- a run is moved, and ends at r
+pub record MovesRun (run : Run) (b b′ : List ℕ) (r : ℕ) : Type 0 where
+  pub bytes : b′ ≡ moved (run .from) (run .to) (run .len) b
+  pub end : r ≡ run .to + run .len
+
 -- a run that reaches `place`: what is still to be moved by it gives the bytes that the run before was to give
 pub record ReachesTo (place : ℕ) (run : Run) (b b′ : List ℕ) (r : Run) : Type 0 where
   pub reaches : r .from + r .len ≡ place

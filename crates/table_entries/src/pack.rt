@@ -7,7 +7,7 @@ ghost use Rattle.config.specs.Limits.{entryWords};
 ghost use Rattle.table.specs.Layout.{entriesAt};
 ghost use Rattle.table.specs.Table.{entriesFrom};
 ghost use Rattle.table.specs.WellFormed.{placesLegal};
-ghost use Rattle.table_entries.specs.Pack.{lastEnd, ReachesTo, Packs};
+ghost use Rattle.table_entries.specs.Pack.{lastEnd, MovesRun, ReachesTo, Packs};
 use areas::move_bytes_down;
 use config::ENTRY_WORDS;
 use config::HEADER_WORDS;
@@ -36,6 +36,15 @@ struct Run {
     len: usize,
 }
 
+// Moves a run; answers where it ends then.
+fn move_run(bytes: &mut [u8], run: Run) -> usize
+    requires { ⌜ (run .to ≤ run .from) × (run .from + run .len ≤ length (now bytes)) ⌝ }
+    ensures { λ r. ⌜ MovesRun run (now (bytes .entry)) (now (bytes .exit)) r ⌝ }
+{
+    move_bytes_down(bytes, run.from, run.to, run.len);
+    run.to + run.len
+}
+
 // The run that a body at this place goes on with. Where it lies apart, the run is moved and the next one begins.
 fn run_up_to(bytes: &mut [u8], run: Run, place: usize) -> Run
     requires { ⌜ (run .to ≤ run .from) × (run .from + run .len ≤ place) ⌝ }
@@ -45,10 +54,10 @@ fn run_up_to(bytes: &mut [u8], run: Run, place: usize) -> Run
     if run.from + run.len == place {
         return run;
     }
-    move_bytes_down(bytes, run.from, run.to, run.len);
+    let end = move_run(bytes, run);
     Run {
         from: place,
-        to: run.to + run.len,
+        to: end,
         len: 0,
     }
 }
@@ -75,6 +84,5 @@ pub fn pack_bodies(words: &mut [u64], bytes: &mut [u8], entries: usize) -> usize
         left -= 1;
         p += ENTRY_WORDS;
     }
-    move_bytes_down(bytes, run.from, run.to, run.len);
-    run.to + run.len
+    move_run(bytes, run)
 }

@@ -1,7 +1,6 @@
 use borrow.Author.Needs.{needs}
 use Rattle.table_entries.proofs.PackPass.{EntriesPacked, none-packed, all-packed-up, entry-packed}
-use Rattle.table_entries.proofs.PackPass.{run-before, place-within, target-within, new-place-fits}
-use Rattle.table_entries.proofs.PackPass.{new-length-fits}
+use Rattle.table_entries.proofs.PackPass.{run-before, place-within, new-place-fits, new-length-fits}
 use Rattle.table_entries.proofs.pack.pack_bodies.Statement.{statement}
 use Rattle.table_entries.proofs.pack.pack_bodies.Tie as tie
 
@@ -48,11 +47,8 @@ loop-less c = search needs
 loop-again : tie.Need-loop-again Inv-loop μ-loop
 loop-again c = search (entry-packed, needs)
 
-move-bytes-down-requires : tie.Need-move-bytes-down-requires Inv-loop μ-loop
-move-bytes-down-requires c κs = search (target-within, needs)
-
-add-result : tie.Need-add-result Inv-loop μ-loop
-add-result c = search (target-within, needs)
+move-run-requires : tie.Need-move-run-requires Inv-loop μ-loop
+move-run-requires c κs = search needs
 
 same-length : tie.Need-same-length Inv-loop μ-loop
 same-length c = search needs
@@ -81,8 +77,7 @@ pack-bodies-spec =
     add-p
     loop-less
     loop-again
-    move-bytes-down-requires
-    add-result
+    move-run-requires
     same-length
     same-length-2
     returns)

@@ -9,11 +9,8 @@ add-if1 c = search needs
 returns : tie.Need-returns
 returns c = search needs
 
-move-bytes-down-requires : tie.Need-move-bytes-down-requires
-move-bytes-down-requires c κs = search needs
-
-add-t4 : tie.Need-add-t4
-add-t4 c = search needs
+move-run-requires : tie.Need-move-run-requires
+move-run-requires c κs = search needs
 
 same-length : tie.Need-same-length
 same-length c = search needs
@@ -23,4 +20,4 @@ returns-2 c = search (run-moved, needs)
 
 pub run-up-to-spec : {M : Type 1} → statement M
 run-up-to-spec =
-    tie.close (tie.spec add-if1 returns move-bytes-down-requires add-t4 same-length returns-2)
+    tie.close (tie.spec add-if1 returns move-run-requires same-length returns-2)
