@@ -312,33 +312,6 @@ impl Both {
         (time_of(|| runs.make(words, bytes)).0, 1)
     }
 
-    /// As many bytes of the same areas moved at once towards the front, as far as they move in the
-    /// mean: after a gap by its length, after an eviction by half of what was evicted.
-    pub fn memmove(&mut self) -> Spent {
-        let Shape { call, per, length, gap, .. } = self.shape;
-        let (stay, evicted) = (self.shape.bodies() - per, per.div_ceil(2));
-        self.lent.restore();
-        let (from, body_bytes) = match call {
-            Call::OfferPacks => (gap, self.shape.bodies() * length),
-            Call::OfferEvictsBytes => (evicted * length, stay * length),
-            _ => (0, 0),
-        };
-        let from = from.min(self.lent.bytes.len() - body_bytes);
-        let entry_words = if call == Call::OfferPacks { 0 } else { stay * ENTRY_WORDS };
-        let first = HEADER_WORDS + evicted * ENTRY_WORDS;
-        let bytes = black_box(&mut self.lent.bytes);
-        let words = black_box(&mut self.lent.words);
-        let (time, ()) = time_of(|| {
-            if body_bytes > 0 {
-                bytes.copy_within(from..from + body_bytes, 0);
-            }
-            if entry_words > 0 {
-                words.copy_within(first..first + entry_words, HEADER_WORDS);
-            }
-        });
-        (time, 1)
-    }
-
     /// The entries and bodies brought to the same places by hand.
     pub fn by_hand(&mut self) -> Spent {
         self.lent.restore();

@@ -27,6 +27,15 @@ struct Run {
     length: usize,
 }
 
+impl Run {
+    /// Bytes that stay where they are are not copied.
+    fn make<T: Copy>(&self, area: &mut [T]) {
+        if self.from != self.to {
+            area.copy_within(self.from..self.from + self.length, self.to);
+        }
+    }
+}
+
 /// The moves of an offer, and nothing else.
 pub struct Runs {
     bodies: Vec<Run>,
@@ -63,18 +72,34 @@ impl Runs {
 
     /// In bytes.
     pub fn moved(&self) -> usize {
-        let lengths = |runs: &[Run]| runs.iter().map(|run| run.length).sum::<usize>();
-        lengths(&self.bodies) + 8 * lengths(&self.entries)
+        length_of(&self.bodies) + 8 * length_of(&self.entries)
     }
 
     pub fn make(&self, words: &mut [u64], bytes: &mut [u8]) {
-        for run in &self.bodies {
-            bytes.copy_within(run.from..run.from + run.length, run.to);
-        }
-        for run in &self.entries {
-            words.copy_within(run.from..run.from + run.length, run.to);
-        }
+        self.bodies.iter().for_each(|run| run.make(bytes));
+        self.entries.iter().for_each(|run| run.make(words));
     }
+
+    /// One move of as many bytes and one of as many words, each to the front of where they go, from
+    /// as far as they move in the mean.
+    pub fn at_once(&self) -> Self {
+        Self { bodies: mean_of(&self.bodies), entries: mean_of(&self.entries) }
+    }
+}
+
+fn length_of(runs: &[Run]) -> usize {
+    runs.iter().map(|run| run.length).sum()
+}
+
+fn mean_of(runs: &[Run]) -> Vec<Run> {
+    let length = length_of(runs);
+    let far: usize = runs.iter().map(|run| run.length * (run.from - run.to)).sum();
+    let first = runs.first().map_or(0, |run| run.to);
+    let last = runs.last().map_or(0, |run| run.from + run.length);
+    // at least one, and within what was there
+    let far =
+        far.checked_div(length).unwrap_or(0).clamp(1, (last - first).max(length + 1) - length);
+    Vec::from_iter((length > 0).then_some(Run { from: first + far, to: first, length }))
 }
 
 /// One more that moves: with the run before, where it lies behind that and goes there.
@@ -136,7 +161,7 @@ fn evict_and_pack(entries: &mut [Entry], bytes: &mut [u8]) -> usize {
         let entry = entries[at];
         let (place, len) = (entry[PLACE] as usize, entry[LENGTH] as usize);
         if entry[LABEL] == EVICTED {
-            bytes.copy_within(run.from..run.from + run.length, run.to);
+            run.make(bytes);
             run = Run { from: place + len, to: end, length: 0 };
             continue;
         }
@@ -146,6 +171,6 @@ fn evict_and_pack(entries: &mut [Entry], bytes: &mut [u8]) -> usize {
         end += len;
         run.length += len;
     }
-    bytes.copy_within(run.from..run.from + run.length, run.to);
+    run.make(bytes);
     kept
 }

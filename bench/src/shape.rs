@@ -31,6 +31,8 @@ pub enum Order {
     Blocks,
     /// By chance.
     Chance,
+    /// The least recent template's bodies near the end: behind them lies one of each other template.
+    LeastRecentNearEnd,
 }
 
 /// The measured calls.
@@ -167,6 +169,14 @@ impl Shape {
                 for template in 0..self.templates {
                     arrivals.extend((0..self.count_of(template)).map(|_| template));
                 }
+            }
+            Order::LeastRecentNearEnd => {
+                for round in 1..self.per {
+                    let held = (1..self.templates).filter(|&at| round < self.count_of(at));
+                    arrivals.extend(held);
+                }
+                arrivals.extend((0..self.count_of(0)).map(|_| 0));
+                arrivals.extend((1..self.templates).filter(|&at| 0 < self.count_of(at)));
             }
         }
         if self.order == Order::Chance {
