@@ -10,7 +10,7 @@
  * is not const overlaps no other memory of the same call. Nothing is allocated, nothing is kept
  * between calls, and no function fails to return.
  *
- * size_t has 64 bits: the archive is for x86-64.
+ * size_t has 64 bits: the archive is for x86-64. It needs memmove and memset, and nothing else.
  */
 #ifndef NETFLOW_PENDING_H
 #define NETFLOW_PENDING_H

@@ -172,8 +172,8 @@ impl PendingFlowCache {
     /// # Unlike the original
     /// The original takes any entries under any ID, and loses others in doing so. Here they must
     /// be the last ones of the last drain, unaltered, with no `cache`, `drain`, `resize`, `clear`
-    /// or put-back since (one that was refused with `Some` for its size, and a refused resize,
-    /// aside). Any others are refused (number 25): they are freed and nothing changes. They were
+    /// or put-back since; a `cache` that was refused for its size, a refused resize and a put-back
+    /// that was refused or of no entries do not count. Any others are refused (number 25): they are freed and nothing changes. They were
     /// handed out and are no drops, so neither the metrics nor `pending_dropped` rise. As this
     /// method cannot say so, [`refused_put_backs`](Self::refused_put_backs) counts them;
     /// [`try_restore_replay_suffix`](Self::try_restore_replay_suffix) gives them back.

@@ -82,7 +82,7 @@ fn put_back(id: u16, run: impl Fn() -> (Alone, Vec<PendingFlowEntry>), expected:
     alone
 }
 
-/// The body offered in between is gone and counted nowhere, and the total is 3 with 2 bytes held.
+/// The body offered in between is lost and counted nowhere, and the total is 3 with 2 bytes held.
 #[test]
 fn after_a_new_offer_of_the_id_a_body_is_lost() {
     let alone = put_back(
