@@ -12,15 +12,12 @@ use Rattle.config.specs.declared.Ttl.the-variants.{After}
 use Rattle.config.proofs.Tests.{by-case}
 use Rattle.config.proofs.Lists.{All}
 use Rattle.table.specs.declared.Entry.{Entry}
-use Rattle.table.specs.Layout.{entriesAt}
-use Rattle.table.specs.Table.{entriesFrom, tally}
+use Rattle.table.specs.Table.{tally}
 use Rattle.table.proofs.Labels.{tally-here, tally-later}
 use Rattle.table_entries.specs.declared.StayTest.{StayTest}
-use Rattle.table_entries.specs.declared.sweeps.Kept.{Kept}
 use Rattle.table_entries.specs.Stays.{stays}
-use Rattle.table_entries.specs.Sums.{lensWord}
 use Rattle.table_entries.specs.Sweep.{swept}
-use Rattle.entry_sweeps.specs.KeptBy.{keptBy, SweepsBy}
+use Rattle.entry_sweeps.specs.KeptBy.{keptBy}
 
 -- where nothing is to be skipped, a sweep keeps what stays by itself
 pub swept-unskipped : (q : StayTest) (skip : List ℕ) (es : List Entry) → All (λ e. getD skip (e .label) 0 ≡ 0) es →
@@ -48,24 +45,27 @@ module _ (now label most : ℕ) where
         and-true (otherThan label e),
       )
 
-  zero-kept : (es : List Entry) → All (λ e. e .len ≤ most) es → keptBy (stays zeroTtl) es ≡ keptBy (otherThan label) es
+  pub zero-kept : (es : List Entry) → All (λ e. e .len ≤ most) es →
+      keptBy (stays zeroTtl) es ≡ keptBy (otherThan label) es
   unfolding keptBy
   zero-kept [] short = refl
   zero-kept (e ∷ es) short = rw (zero-stays e (short .0), zero-kept es (short .1))
 
-  pub zero-sweeps : {m : ℕ} {w w′ : List ℕ} {r : Kept} → All (λ e. e .len ≤ most) (entriesFrom w entriesAt m) →
-      SweepsBy (stays zeroTtl) m w w′ r → SweepsBy (otherThan label) m w w′ r
-  zero-sweeps {m} {w} short s =
-      let same = zero-kept (entriesFrom w entriesAt m) short in
-      record {
-        few = s .few;
-        entries = s .entries ∙ same;
-        bytes = s .bytes ∙ ap lensWord same;
-        head = s .head;
-        tail = s .tail;
-      }
-
 module _ (p : Entry → Bool) where
+  pub none-kept-by : keptBy p [] ≡ []
+  unfolding keptBy
+  none-kept-by = refl
+
+  -- a first entry goes, or is kept
+  module _ (e : Entry) {v : Bool} (test : v ≡ p e) where
+    pub first-goes : v ≡ false → (es : List Entry) → keptBy p (e ∷ es) ≡ keptBy p es
+    unfolding keptBy
+    first-goes h es = rw (← test, h)
+
+    pub first-kept : v ≡ true → (es : List Entry) → keptBy p (e ∷ es) ≡ e ∷ keptBy p es
+    unfolding keptBy
+    first-kept h es = rw (← test, h)
+
   -- what holds of a first entry and others: it goes, or is kept
   kept-cases : (P : List Entry → Type 0) (e : Entry) (es : List Entry) → (p e ≡ false → P (keptBy p es)) →
       (p e ≡ true → P (e ∷ keptBy p es)) → P (keptBy p (e ∷ es))
@@ -90,10 +90,6 @@ module _ (p : Entry → Bool) where
     abbrev pub OthersPass : List Entry → Type 0
     OthersPass es = All (λ e. ((label ≡ e .label → ⊥) → p e ≡ true)) es
 
-    other-first : (e : Entry) (es : List Entry) → p e ≡ true → keptBy p (e ∷ es) ≡ e ∷ keptBy p es
-    unfolding keptBy
-    other-first e es h = rw h
-
     -- all entries of another label are kept
     pub kept-others : (k : ℕ) → (label ≡ k → ⊥) → (es : List Entry) → OthersPass es →
         tally k (keptBy p es) ≡ tally k es
@@ -107,7 +103,7 @@ module _ (p : Entry → Bool) where
             let later : (l : List Entry) → tally k (e ∷ l) ≡ tally k l = λ l. tally-later k e l (λ z. o (d ∙ sym z)) in
             kept-cases (λ l. tally k l ≡ tally k (e ∷ es)) e es (λ _. ih ∙ sym (later es))
             (λ _. later (keptBy p es) ∙ ih ∙ sym (later es))
-        by-label (no d) ih = ap (tally k) (other-first e es (a .0 d)) ∙ rw ih
+        by-label (no d) ih = ap (tally k) (first-kept e refl (a .0 d) es) ∙ rw ih
 
     -- as many of the label go as entries go
     pub kept-fewer : (es : List Entry) → OthersPass es →
@@ -125,4 +121,4 @@ module _ (p : Entry → Bool) where
             (λ _. omega (arith, ih, here es)) (λ _. omega (arith, ih, here es, here (keptBy p es)))
         by-label (no d) ih =
             let later : (l : List Entry) → tally label (e ∷ l) ≡ tally label l = λ l. tally-later label e l d in
-            rw (other-first e es (a .0 d)) (omega (arith, ih, later es, later (keptBy p es)))
+            rw (first-kept e refl (a .0 d) es) (omega (arith, ih, later es, later (keptBy p es)))

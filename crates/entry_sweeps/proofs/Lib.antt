@@ -1,2 +1,1 @@
-pub mod KeptPass
 pub mod KeptBy

@@ -3,8 +3,10 @@ ghost use Prim.Native.Nat.{_+_, _*_, _≤_};
 ghost use lib.ListN.{length};
 ghost use Rattle.config.specs.Limits.{entryWords};
 ghost use Rattle.table.specs.Layout.{entriesAt};
+ghost use Rattle.table.specs.Table.{entriesFrom};
 ghost use Rattle.table_entries.specs.Stays.{stays};
-ghost use Rattle.entry_sweeps.specs.KeptBy.{SweepsBy};
+ghost use Rattle.table_entries.specs.Sweep.{KeepsOnly};
+ghost use Rattle.entry_sweeps.specs.KeptBy.{keptBy};
 use config::ENTRY_WORDS;
 use config::HEADER_WORDS;
 use std::num::wrapping_add_u64;
@@ -17,7 +19,9 @@ use table_entries::stays;
 // Keeps of the entries those that stay by themselves, in order.
 pub fn sweep_staying(words: &mut [u64], entries: usize, test: StayTest) -> Kept
     requires { ⌜ entriesAt + entryWords * entries ≤ length (now words) ⌝ }
-    ensures { λ r. ⌜ SweepsBy (stays test) entries (now (words .entry)) (now (words .exit)) r ⌝ }
+    ensures { λ r.
+        ⌜ KeepsOnly (keptBy (stays test) (entriesFrom (now (words .entry)) entriesAt entries)) entries
+        (now (words .entry)) (now (words .exit)) r ⌝ }
 {
     let mut kept: usize = 0;
     let mut bytes: u64 = 0;

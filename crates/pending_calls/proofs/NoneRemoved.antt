@@ -163,13 +163,8 @@ module _ (w : List ℕ) (n : ℕ) (ok : wellFormed w n ≡ true) where
             w w′ (counted es) left
             (record { entries = entryCount w; bytes = f .total; records = remain; apart = bodies })
             (entries-below-records w n legal, records-within w n legal)
-            (record {
-              few = omega arith;
-              entries = sym all-swept-stay;
-              bytes = total ∙ ap lensWord (sym all-swept-stay);
-              head = refl;
-              tail = refl;
-            })
+            (rw all-swept-stay
+            (record { few = omega arith; entries = refl; bytes = total; head = refl; tail = refl }))
             (rw all-swept-stay)
             (closed-apart (recordsAt (limitsOf w)) (heldCount w + chanceCount w) apart left (counted es) w w′ counts
             refl (rw (start, all) at closes)) long)

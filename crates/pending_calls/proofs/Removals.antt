@@ -7,12 +7,13 @@ use native.Mathlib.Omega.{arith}
 use lib.ListN.{length, getD, set, replicate}
 use Rattle.config.specs.Limits.{recordWords, entryWords}
 use Rattle.areas.proofs.Puts.{take-less, drop-more}
+use Rattle.table.specs.declared.Entry.{Entry}
 use Rattle.table.specs.Layout.{entriesAt}
 use Rattle.table.specs.Table.{entriesFrom, recordsFrom, indexFrom}
 use Rattle.table_entries.specs.declared.StayTest.{StayTest}
 use Rattle.table_entries.specs.declared.sweeps.Kept.{Kept}
 use Rattle.table_entries.specs.Sums.{summed}
-use Rattle.table_entries.specs.Sweep.{swept, Sweeps}
+use Rattle.table_entries.specs.Sweep.{swept, KeepsOnly}
 use Rattle.table_entries.proofs.Frames.{entries-below}
 use Rattle.table_records.specs.Close.{Closes}
 use Rattle.table_records.proofs.Frames.{records-above, index-above}
@@ -21,7 +22,8 @@ use Rattle.pending_calls.specs.Removal.{everything, counted, countedBut,
 
 module _ (q : StayTest) (p k m apart : ℕ) (skip w w₁ w′ kept : List ℕ) (left : Kept) (r : Removed) where
   pub removal-done : (entriesAt + entryWords * m ≤ p) × (p + recordWords * k ≤ length w) →
-      Sweeps q m skip w w₁ left → kept ≡ counted (swept q skip (entriesFrom w entriesAt m)) →
+      KeepsOnly (swept q skip (entriesFrom w entriesAt m)) m w w₁ left →
+      kept ≡ counted (swept q skip (entriesFrom w entriesAt m)) →
       ClosesApart p k apart left kept w₁ w′ r → length w′ ≡ length w → Removes q p k m apart skip w w′ r
   removal-done room s counts c long =
       let x = c .closes in
@@ -48,11 +50,10 @@ module _ (q : StayTest) (p k m apart : ℕ) (skip w w₁ w′ kept : List ℕ) (
       }
 
 -- the counts of what a sweep left, with the test by which every body stays
-pub swept-counted : {q : StayTest} {m : ℕ} {skip w w₁ : List ℕ} {left : Kept} (e : StayTest) {kept : List ℕ} →
-    Sweeps q m skip w w₁ left → e ≡ everything →
-    kept ≡ summed e false (replicate 1024 0) (entriesFrom w₁ entriesAt (left .entries)) →
-    kept ≡ counted (swept q skip (entriesFrom w entriesAt m))
-swept-counted e s stays is = is ∙ rw (stays, s .entries)
+pub swept-counted : {es : List Entry} {m : ℕ} {w w₁ : List ℕ} {left : Kept} (q : StayTest) {kept : List ℕ} →
+    KeepsOnly es m w w₁ left → q ≡ everything →
+    kept ≡ summed q false (replicate 1024 0) (entriesFrom w₁ entriesAt (left .entries)) → kept ≡ counted es
+swept-counted q s stays is = is ∙ rw (stays, s .entries)
 
 -- the records closed, with none kept for the label apart
 pub closed-apart : (p k apart : ℕ) (left : Kept) (kept w w′ : List ℕ) {kept′ : List ℕ} {remain bodies : ℕ} →

@@ -24,7 +24,7 @@ use Rattle.table.proofs.Facts.{LegalWords, words-say}
 use Rattle.table.proofs.Labels.{tally-most, absent-says, absent-tally}
 use Rattle.table_entries.specs.declared.StayTest.{StayTest}
 use Rattle.table_entries.specs.declared.sweeps.Kept.{Kept}
-use Rattle.table_entries.specs.Sweep.{swept, Sweeps}
+use Rattle.table_entries.specs.Sweep.{swept, KeepsOnly}
 use Rattle.table_entries.proofs.LabelSums.{length-summed, zeros}
 use Rattle.table_entries.proofs.Lengths.{placed-wider}
 use Rattle.table_entries.proofs.Swept.{length-swept, all-swept}
@@ -202,7 +202,7 @@ module _ (w b : List ℕ) (ok : wellFormed w (length b) ≡ true) {skip : List �
         (limits : l ≡ limitsOf w) (from : p ≡ recordsAt l) {kept₀ kept w₁ w′ : List ℕ} {left : Kept} {r : Removed}
         (counts : kept₀ ≡ wholeCounts skip zeros (recordsFrom w p (f .templates + f .chance))) where
       removed-by : (q : StayTest) → (kept₀ ≡ told → kept ≡ counted (swept q skip es)) →
-          Sweeps q (f .entries) skip w w₁ left →
+          KeepsOnly (swept q skip (entriesFrom w entriesAt (f .entries))) (f .entries) w w₁ left →
           ClosesApart p (f .templates + f .chance) apart left kept w₁ w′ r → length w′ ≡ length w →
           RemovesFrom q apart skip w w′ r
       removed-by q right s c long =
@@ -210,7 +210,8 @@ module _ (w b : List ℕ) (ok : wellFormed w (length b) ≡ true) {skip : List �
           w′ kept left r (entries-below-records w (length b) legal, records-within w (length b) legal)
           (rw figures at s) (right (rw (from, limits, figures) at counts)) (rw (from, limits, figures) at c) long
 
-      pub whole-removed : {q : StayTest} → q ≡ everything → kept ≡ kept₀ → Sweeps q (f .entries) skip w w₁ left →
+      pub whole-removed : {q : StayTest} → q ≡ everything → kept ≡ kept₀ →
+          KeepsOnly (swept q skip (entriesFrom w entriesAt (f .entries))) (f .entries) w w₁ left →
           ClosesApart p (f .templates + f .chance) apart left kept w₁ w′ r → length w′ ≡ length w →
           RemovesFrom everything apart skip w w′ r
       whole-removed all same s c long =
@@ -219,7 +220,7 @@ module _ (w b : List ℕ) (ok : wellFormed w (length b) ≡ true) {skip : List �
       pub expired-removed : (ttl : Ttl) (now live : ℕ) →
           live ≡ tally apart (swept (unexpired ttl now apart) skip (entriesFrom w entriesAt (f .entries))) →
           kept ≡ set kept₀ apart live → {q : StayTest} → q ≡ unexpired ttl now apart →
-          Sweeps q (f .entries) skip w w₁ left →
+          KeepsOnly (swept q skip (entriesFrom w entriesAt (f .entries))) (f .entries) w w₁ left →
           ClosesApart p (f .templates + f .chance) apart left kept w₁ w′ r → length w′ ≡ length w →
           RemovesFrom (unexpired ttl now apart) apart
           skip w w′ r

@@ -3,6 +3,7 @@ pub mod SumsPasses
 pub mod LabelSums
 pub mod Lengths
 pub mod Frames
+pub mod KeepPass
 pub mod SweepPass
 pub mod Swept
 pub mod Ends

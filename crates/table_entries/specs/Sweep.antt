@@ -32,10 +32,10 @@ pub record Spends (label : ℕ) (skip skip′ : List ℕ) (r : Bool) : Type 0 wh
 unfoldable pub putEntry : List ℕ → ℕ → Entry → List ℕ
 putEntry w p e = set (set (set (set w p (e .label)) (p + 1) (e .place)) (p + 2) (e .len)) (p + 3) (e .clock)
 
--- the first m entries are swept; no other word changes
-pub record Sweeps (q : StayTest) (m : ℕ) (skip w w′ : List ℕ) (r : Kept) : Type 0 where
+-- of the first m entries these are kept, in this order; no word before or behind the m entries changes
+pub record KeepsOnly (kept : List Entry) (m : ℕ) (w w′ : List ℕ) (r : Kept) : Type 0 where
   pub few : r .entries ≤ m
-  pub entries : entriesFrom w′ entriesAt (r .entries) ≡ swept q skip (entriesFrom w entriesAt m)
-  pub bytes : r .bytes ≡ lensWord (swept q skip (entriesFrom w entriesAt m))
+  pub entries : entriesFrom w′ entriesAt (r .entries) ≡ kept
+  pub bytes : r .bytes ≡ lensWord kept
   pub head : take entriesAt w′ ≡ take entriesAt w
   pub tail : drop (entriesAt + entryWords * m) w′ ≡ drop (entriesAt + entryWords * m) w

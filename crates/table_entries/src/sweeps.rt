@@ -4,7 +4,8 @@ ghost use Prim.Native.Nat.{_+_, _*_, _≤_};
 ghost use lib.ListN.{length};
 ghost use Rattle.config.specs.Limits.{entryWords};
 ghost use Rattle.table.specs.Layout.{entriesAt};
-ghost use Rattle.table_entries.specs.Sweep.{Spends, putEntry, Sweeps};
+ghost use Rattle.table.specs.Table.{entriesFrom};
+ghost use Rattle.table_entries.specs.Sweep.{swept, Spends, putEntry, KeepsOnly};
 use super::StayTest;
 use super::stay::stays;
 use config::ENTRY_WORDS;
@@ -52,7 +53,8 @@ pub fn put_entry(words: &mut [u64], p: usize, entry: Entry)
 pub fn sweep(words: &mut [u64], entries: usize, test: StayTest, skip: &mut [u32; LABELS]) -> Kept
     requires { ⌜ (entriesAt + entryWords * entries ≤ length (now words)) × (length (now skip) ≡ 1024) ⌝ }
     ensures { λ r.
-        ⌜ Sweeps test entries (now (skip .entry)) (now (words .entry)) (now (words .exit)) r ⌝ }
+        ⌜ KeepsOnly (swept test (now (skip .entry)) (entriesFrom (now (words .entry)) entriesAt entries)) entries
+        (now (words .entry)) (now (words .exit)) r ⌝ }
 {
     let mut kept: usize = 0;
     let mut bytes: u64 = 0;

@@ -1,5 +1,5 @@
--- The removal of the expired bodies of a label, from the steps of the code: its expired entries are swept, and its record
--- is taken off, where there is one. Assumes nothing.
+-- The removal of the expired bodies of a label, from the steps of the code: its expired entries are swept, and its
+-- record is taken off, where there is one. Assumes nothing.
 use mathlib.Core.Path.{_≡_, refl, sym, ap, _∙_}
 use mathlib.Core.Bool.{Bool, true, false, cond}
 use mathlib.Core.List.{List}
@@ -24,11 +24,11 @@ use Rattle.table.proofs.Labels.{tally-most, absent-tally}
 use Rattle.table_entries.specs.declared.StayTest.{StayTest}
 use Rattle.table_entries.specs.declared.sweeps.Kept.{Kept}
 use Rattle.table_entries.specs.Stays.{stays}
-use Rattle.table_entries.specs.Sums.{lensWord}
-use Rattle.table_entries.specs.Sweep.{swept, Sweeps}
+use Rattle.table_entries.specs.Sweep.{swept, KeepsOnly}
 use Rattle.table_entries.proofs.LabelSums.{length-summed, zeros}
-use Rattle.entry_sweeps.specs.KeptBy.{keptBy, SweepsBy}
-use Rattle.entry_sweeps.proofs.KeptBy.{swept-unskipped, length-kept-by, all-kept-by, OthersPass, kept-others, kept-fewer}
+use Rattle.entry_sweeps.specs.KeptBy.{keptBy}
+use Rattle.entry_sweeps.proofs.KeptBy.{swept-unskipped, length-kept-by, all-kept-by, OthersPass, kept-others}
+use Rattle.entry_sweeps.proofs.KeptBy.{kept-fewer}
 use Rattle.table_records.specs.Close.{Closes}
 use Rattle.table_records.specs.Take.{placeOf, cappedCount}
 use Rattle.table_records.proofs.Frames.{records-above, index-above}
@@ -123,7 +123,7 @@ module _ (w : List ℕ) (n : ℕ) (ok : wellFormed w n ≡ true) (ttl : Ttl) (no
 
   -- ---- the steps
 
-  module _ {w₁ w₂ : List ℕ} {left : Kept} {a : Taken} (s : SweepsBy (stays q) (entryCount w) w w₁ left)
+  module _ {w₁ w₂ : List ℕ} {left : Kept} {a : Taken} (s : KeepsOnly stay (entryCount w) w w₁ left)
       (t : TakesLabel label p k w₁ w₂ a) where
     same-records : recordsFrom w₁ p k ≡ rs
     same-records =
@@ -206,15 +206,6 @@ module _ (w : List ℕ) (n : ℕ) (ok : wellFormed w n ≡ true) (ttl : Ttl) (no
             ∙ sym (List·getD-eq-default (counted stay) 0 {n = label}
             (omega (arith, past, length-summed everything false zeros stay)))
 
-    swept-label : Sweeps q (entryCount w) zeros w w₁ left
-    swept-label = record {
-      few = s .few;
-      entries = s .entries ∙ sym swept-is;
-      bytes = s .bytes ∙ ap lensWord (sym swept-is);
-      head = s .head;
-      tail = s .tail;
-    }
-
     removed-by : length w₂ ≡ length w →
         Removes q p k (entryCount w) label zeros w w₂
         (record {
@@ -231,15 +222,15 @@ module _ (w : List ℕ) (n : ℕ) (ok : wellFormed w n ≡ true) (ttl : Ttl) (no
           records = a .records;
           apart = a .bodies - (entryCount w - left .entries);
         })
-        (entries-below-records w n legal, records-within w n legal) swept-label (ap counted (sym swept-is))
+        (entries-below-records w n legal, records-within w n legal) (rw swept-is s) (ap counted (sym swept-is))
         (closed-apart p k label left (counted stay) w₁ w₂ bodies-left refl closes) long
 
 -- with the limits and the figures that were read
 module _ (w : List ℕ) (n : ℕ) (ok : wellFormed w n ≡ true) (now label : ℕ) {f : HeaderFigures}
     {l : PendingFlowsConfig} {p : ℕ} (figures : f ≡ figuresAt w) (limits : l ≡ limitsOf w) (from : p ≡ recordsAt l)
     {w₁ : List ℕ} {left : Kept} {q : StayTest} (is : q ≡ unexpired (l .ttl) now label)
-    (s : SweepsBy (stays q) (f .entries) w w₁ left) where
-  swept-read : SweepsBy (stays (unexpired (l .ttl) now label)) (entryCount w) w w₁ left
+    (s : KeepsOnly (keptBy (stays q) (entriesFrom w entriesAt (f .entries))) (f .entries) w w₁ left) where
+  swept-read : KeepsOnly (stay w n ok (l .ttl) now label) (entryCount w) w w₁ left
   swept-read = rw (is, figures) at s
 
   pub went-fits : f .entries - left .entries < 2 ^ 32

@@ -21,19 +21,9 @@ use Rattle.table_entries.specs.Sweep.{swept}
 use Rattle.table_entries.proofs.LabelSums.{zeros}
 use Rattle.table_view.proofs.Tied.{none-past}
 use Rattle.entry_sweeps.specs.KeptBy.{keptBy}
-use Rattle.entry_sweeps.proofs.KeptBy.{otherThan, OthersPass, kept-others}
+use Rattle.entry_sweeps.proofs.KeptBy.{otherThan, first-goes, first-kept, OthersPass, kept-others}
 
 module _ (label : ℕ) where
-  -- the first entry goes, or is kept
-  own-first : (e : Entry) (es : List Entry) → label ≡ e .label → keptBy (otherThan label) (e ∷ es) ≡ keptBy (otherThan label) es
-  unfolding keptBy
-  own-first e es h = rw (eq-eqb label (e .label) h)
-
-  other-first : (e : Entry) (es : List Entry) → (label ≡ e .label → ⊥) →
-      keptBy (otherThan label) (e ∷ es) ≡ e ∷ keptBy (otherThan label) es
-  unfolding keptBy
-  other-first e es h = rw (ne-eqb label (e .label) h)
-
   pub none-of-own : (es : List Entry) → tally label (keptBy (otherThan label) es) ≡ 0
   unfolding keptBy
   none-of-own [] = refl
@@ -41,9 +31,12 @@ module _ (label : ℕ) where
     where
       by-label : Dec (label ≡ e .label) → tally label (keptBy (otherThan label) es) ≡ 0 →
           tally label (keptBy (otherThan label) (e ∷ es)) ≡ 0
-      by-label (yes d) ih = ap (tally label) (own-first e es d) ∙ ih
+      by-label (yes d) ih =
+          ap (tally label) (first-goes (otherThan label) e refl (rw (eq-eqb label (e .label) d)) es) ∙ ih
       by-label (no d) ih =
-          ap (tally label) (other-first e es d) ∙ tally-later label e (keptBy (otherThan label) es) d ∙ ih
+          ap (tally label) (first-kept (otherThan label) e refl (rw (ne-eqb label (e .label) d)) es)
+          ∙ tally-later label e (keptBy (otherThan label) es) d
+          ∙ ih
 
   others-pass : (es : List Entry) → OthersPass (otherThan label) label es
   others-pass [] = tt

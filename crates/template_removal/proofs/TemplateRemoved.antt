@@ -26,10 +26,9 @@ use Rattle.table.proofs.Labels.{tally-most, absent-says, absent-holds, absent-t
 use Rattle.table_entries.specs.declared.StayTest.{StayTest}
 use Rattle.table_entries.specs.declared.sweeps.Kept.{Kept}
 use Rattle.table_entries.specs.Stays.{stays}
-use Rattle.table_entries.specs.Sums.{lensWord}
-use Rattle.table_entries.specs.Sweep.{swept, Sweeps}
-use Rattle.entry_sweeps.specs.KeptBy.{keptBy, SweepsBy}
-use Rattle.entry_sweeps.proofs.KeptBy.{otherThan, zero-sweeps}
+use Rattle.table_entries.specs.Sweep.{swept, KeepsOnly}
+use Rattle.entry_sweeps.specs.KeptBy.{keptBy}
+use Rattle.entry_sweeps.proofs.KeptBy.{otherThan, zero-kept}
 use Rattle.table_entries.proofs.LabelSums.{length-summed, zeros}
 use Rattle.table_entries.proofs.Swept.{length-swept, all-swept}
 use Rattle.table_records.specs.Choose.{skipAll}
@@ -186,7 +185,7 @@ module _ (w : List ℕ) (n : ℕ) (ok : wellFormed w n ≡ true) (label apart : 
 
   -- ---- the steps
 
-  module _ {w₁ w₂ w₃ : List ℕ} {left : Kept} {a b : Taken} (s : SweepsBy (otherThan label) (entryCount w) w w₁ left)
+  module _ {w₁ w₂ w₃ : List ℕ} {left : Kept} {a b : Taken} (s : KeepsOnly stay (entryCount w) w w₁ left)
       (t : TakesLabel label p k w₁ w₂ a) (u : TakesLabel apart p (a .records) w₂ w₃ b) where
     same-records : recordsFrom w₁ p k ≡ rs
     same-records =
@@ -261,22 +260,13 @@ module _ (w : List ℕ) (n : ℕ) (ok : wellFormed w n ≡ true) (label apart : 
             (omega (arith, length-records w₂ p (a .records))) in
             u .none past .2 ∙ none-left (rw records-left at absent)
 
-    swept-label : Sweeps everything (entryCount w) skip w w₁ left
-    swept-label = record {
-      few = s .few;
-      entries = s .entries ∙ sym swept-is;
-      bytes = s .bytes ∙ ap lensWord (sym swept-is);
-      head = s .head;
-      tail = s .tail;
-    }
-
     removed-by : length w₃ ≡ length w →
         Removes everything p k (entryCount w) apart skip w w₃
         (record { entries = left .entries; bytes = left .bytes; records = b .records; apart = b .bodies })
     removed-by long =
         removal-done everything p k (entryCount w) apart skip w w₁ w₃ kept left
         (record { entries = left .entries; bytes = left .bytes; records = b .records; apart = b .bodies })
-        (entries-below-records w n legal, records-within w n legal) swept-label (ap counted (sym swept-is))
+        (entries-below-records w n legal, records-within w n legal) (rw swept-is s) (ap counted (sym swept-is))
         (closed-apart p k apart left kept w₁ w₃ bodies-told refl
         (closes-twice kept but emptied-swept few-records rises-swept own-closed apart-closed)) long
 
@@ -284,12 +274,13 @@ module _ (w : List ℕ) (n : ℕ) (ok : wellFormed w n ≡ true) (label apart : 
 module _ (w : List ℕ) (n : ℕ) (ok : wellFormed w n ≡ true) (label apart : ℕ) {f : HeaderFigures}
     {l : PendingFlowsConfig} {p : ℕ} (figures : f ≡ figuresAt w) (limits : l ≡ limitsOf w) (from : p ≡ recordsAt l)
     {w₁ w₂ w₃ : List ℕ} {left : Kept} {q : StayTest} {a b : Taken} where
-  pub template-removed : q ≡ unexpired (After 0) 0 label → SweepsBy (stays q) (f .entries) w w₁ left →
+  pub template-removed : q ≡ unexpired (After 0) 0 label →
+      KeepsOnly (keptBy (stays q) (entriesFrom w entriesAt (f .entries))) (f .entries) w w₁ left →
       TakesLabel label p (f .templates + f .chance) w₁ w₂ a → TakesLabel apart p (a .records) w₂ w₃ b →
       length w₃ ≡ length w →
       RemovesFrom everything apart
       (set (replicate 1024 0) label skipAll) w w₃
       (record { entries = left .entries; bytes = left .bytes; records = b .records; apart = b .bodies })
   template-removed test s t u long =
-      removed-by w n ok label apart (zero-sweeps 0 label lenMost (entries-short w n ok) (rw (test, figures) at s))
+      removed-by w n ok label apart (rw (test, figures, zero-kept 0 label lenMost _ (entries-short w n ok)) at s)
       (rw (from, limits, figures) at t) (rw (from, limits) at u) long

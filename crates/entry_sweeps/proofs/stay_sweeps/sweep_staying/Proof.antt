@@ -1,20 +1,25 @@
 use mathlib.Core.Path.{_∙_}
 use mathlib.Core.Logic.{⊎-elim}
 use borrow.Author.Needs.{needs}
+use Rattle.table.specs.Layout.{entriesAt}
+use Rattle.table.specs.Table.{entriesFrom}
 use Rattle.table_entries.specs.Stays.{stays}
-use Rattle.entry_sweeps.proofs.KeptPass.{PassKept, none-kept, all-passed, entry-left-out, entry-kept}
+use Rattle.table_entries.proofs.KeepPass.{KeptSoFar, none-kept, none-left, entry-left-out, entry-kept}
+use Rattle.entry_sweeps.specs.KeptBy.{keptBy}
+use Rattle.entry_sweeps.proofs.KeptBy.{none-kept-by, first-goes, first-kept}
 use Rattle.entry_sweeps.proofs.stay_sweeps.sweep_staying.Statement.{statement}
 use Rattle.entry_sweeps.proofs.stay_sweeps.sweep_staying.Tie as tie
 
 abbrev Inv-loop : tie.InvT-loop
 Inv-loop words₀ entries test kept₀ bytes₀ left₀ from₀ to₀ words kept bytes left from to =
-    PassKept (stays test) entries words₀ words kept bytes left from to
+    KeptSoFar (keptBy (stays test)) (keptBy (stays test) (entriesFrom words₀ entriesAt entries)) entries words₀ words
+    kept bytes left from to
 
 abbrev μ-loop : tie.MeasureT-loop
 μ-loop words₀ entries test kept₀ bytes₀ left₀ from₀ to₀ words kept bytes left from to = left
 
 loop-holds : tie.Need-loop-holds Inv-loop μ-loop
-loop-holds c = search (none-kept, needs)
+loop-holds c = none-kept (keptBy (stays _)) _ _
 
 entry-at-requires : tie.Need-entry-at-requires Inv-loop μ-loop
 entry-at-requires c κs = search needs
@@ -46,15 +51,15 @@ loop-less c = search needs
 loop-again : tie.Need-loop-again Inv-loop μ-loop
 loop-again c =
     ⊎-elim
-    (λ v. rw (v .6 ∙ v .2 .ensures, v .7, v .8, v .9) (search (entry-kept, needs)))
-    (λ v. rw (v .1, v .2, v .3, v .4) (search (entry-left-out, needs)))
+    (λ v. rw (v .6 ∙ v .2 .ensures, v .7, v .8, v .9) (search (entry-kept, first-kept, needs)))
+    (λ v. rw (v .1, v .2, v .3, v .4) (search (entry-left-out, first-goes, needs)))
     (c .if1 .came)
 
 same-length : tie.Need-same-length Inv-loop μ-loop
 same-length c = search needs
 
 returns : tie.Need-returns Inv-loop μ-loop
-returns c = search (all-passed, needs)
+returns c = search (none-left, none-kept-by, needs)
 
 pub sweep-staying-spec : {M : Type 1} → statement M
 sweep-staying-spec =
