@@ -2,6 +2,7 @@ use mathlib.Core.Path.{_≡_, _∙_}
 use mathlib.Core.Logic.{⊎-elim}
 use borrow.Author.Tests.{not-true, not-false}
 use borrow.Author.Needs.{needs}
+use Prim.Native.Nat.{_<_}
 use lib.ListN.{length}
 use Rattle.table.specs.Layout.{entriesAt}
 use Rattle.table.specs.Table.{entriesFrom}
@@ -52,8 +53,11 @@ add-from c = search needs
 loop-less : tie.Need-loop-less Inv-loop μ-loop
 loop-less c = search needs
 
+-- that an entry is left is bound first: a wrong test of the loop is then refused where the loop ends
 loop-again : tie.Need-loop-again Inv-loop μ-loop
 loop-again c =
+    let top : tie.At-loop Inv-loop μ-loop = search needs in
+    let more : 0 < top .loop .left = search needs in
     ⊎-elim
     (λ v. rw (v .9 ∙ v .5 .ensures, v .10, v .11, v .12, v .13)
     (length-spent (v .2 .ensures) (search needs), search (entry-kept, first-kept, not-true, needs)))
