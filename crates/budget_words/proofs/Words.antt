@@ -66,6 +66,7 @@ excess-back : (x : Exceeded)
 excess-back None = refl
 excess-back (Recorded e) = limit-back (e .limit) (e .configured) (e .attempted)
 
+-- A budget that was written as words is read back as it was. A final fact, which no proof cites.
 pub read-back : (b : DecodedOutputBudget) → budgetOf (wordsOf b) ≡ b
 unfolding budgetOf wordsOf
 read-back b = λ i. record {

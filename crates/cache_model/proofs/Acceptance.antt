@@ -99,7 +99,7 @@ module _ (l : PendingFlowsConfig) (old : Body → Bool) (i : ℕ) (b : Body) whe
         reached m true f e = leb-true cap m f
         reached m false f e = let no : _≡_ {A = ℕ} 0 1 = cc in absurd (omega arith)
 
-    -- a refusal follows no pruning: it leaves what step 2 left
+    -- A refusal follows no pruning: it leaves what step 2 left. A final fact, which no proof cites.
     pub refusal-prunes-nothing : (ts : List Template) → Within l limitsAlone [] ts → (n : ℕ)
         → steps2to5 l old i b ts .verdict ≡ refused n → steps2to5 l old i b ts .left ≡ step2 l old i b ts
     unfolding steps2to5 step2 afterStep2
@@ -143,6 +143,7 @@ module _ (c : Cache) (h : Limited c) (i : ℕ) (b : Body) where
           (verdict-in-full l (expired (l .ttl) (b .clock)) i b (h .legal) small (c .held) (held .differ))
           ∙ cond-of verdictAnswer full (refused 20) accepted
 
+  -- No offer to a cache within its limits is answered with 21. A final fact, which no proof cites.
   pub never-21 : offered i b c .answer ≢ number 21
   never-21 e =
       let Never : Answer → Type 0 = λ a. a ≡ number 21 → ⊥ in

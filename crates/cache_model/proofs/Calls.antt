@@ -173,6 +173,7 @@ Limited c = CacheWithin limitsAlone [] c
 pub limited : {F : Followed} {new : List Body} {c : Cache} → CacheWithin F new c → Limited c
 limited h = record { legal = h .legal; within = followed-within (λ bs _. tt) (h .within) }
 
+-- A cache that was opened is within its limits, and every call keeps it there. Final facts, which no proof cites.
 pub opened-limited : (l : PendingFlowsConfig) → LegalLimits l → Limited (opened l)
 opened-limited l legal = record { legal = legal; within = nothing-within l limitsAlone [] }
 

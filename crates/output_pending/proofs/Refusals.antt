@@ -47,6 +47,7 @@ kept-unless-done b₃ t₁ t₂ true p s₁ s₂ h = s₁
 kept-unless-done b₃ t₁ t₂ false true s₁ s₂ h = s₂
 kept-unless-done b₃ t₁ t₂ false false s₁ s₂ h = absurd (h refl)
 
+-- This is the final fact, which no proof cites.
 pub refused-keeps : (b : DecodedOutputBudget) (c : Call) → (told b c .number ≡ 0 → ⊥) → SameCounts b (after b c)
 unfolding reserveTold reserveBudget rollbackBudget materializeBudget
 refused-keeps b (reserve v p) h =

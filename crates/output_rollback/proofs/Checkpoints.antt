@@ -44,7 +44,7 @@ all-grow b (c ∷ cs) =
     let more = all-grow (reserveBudget b (c .values) (c .«payload_bytes»)) cs in
     record { limits = more .limits ∙ one .limits; values = omega arith; payload = omega arith }
 
--- the checkpoint is the use of b, and what is in use after the rollback to it
+-- The checkpoint is the use of b, and what is in use after the rollback to it. Final facts, which no other file cites.
 module _ (b : DecodedOutputBudget) (cs : List OutputCounts) where
   pub rollback-is-done : rollbackTold (afterAll b cs) (useOf b .values) (useOf b .«payload_bytes») ≡ done
   unfolding rollbackTold

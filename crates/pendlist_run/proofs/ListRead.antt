@@ -18,6 +18,7 @@ list-read a true reads ended = after-input (length (a .bytes)) (length (a .words
 list-read a false reads ended =
     rw append-nil at (after-bad (length (a .bytes)) (length (a .words)) reads (view a) (ended refl) [])
 
+-- final facts, which no proof cites
 module _ {a a′ : Areas} where
   pub whole-list : (run : RunsInput a Ends.Input a′) →
       (afterText false (joined (run .reads)) a .bad ≡ false)

@@ -215,7 +215,7 @@ module _ (bytes words : ℕ) where
       ∙ rw append-assoc (next-ahead s read (joined reads ++ rest))
 
   -- However an input is cut into reads, the rows that its turns write, and what its lines come to, are those of its
-  -- lines.
+  -- lines. Of the rows, here and up to `bad`, these are final facts, which no proof cites.
   module _ (reads : List (List ℕ)) (v : Option Cache) where
     input-carried : so-far (inputTurns bytes words true reads v) ≡ carried (linesOf (joined reads)) false v
     unfolding inputTurns ahead so-far more behind carried
