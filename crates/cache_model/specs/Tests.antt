@@ -25,8 +25,8 @@ record Row : Type 0 where
   held : List (List ℕ)
 
 -- not pruning before step 2, neither this id nor all: the expired body of 300 does not save 301 from eviction
-abbrev pruneLate : Row
-pruneLate = record {
+abbrev evictBeforePrune : Row
+evictBeforePrune = record {
   limits = limitsOf 2 2 10 10 (After 100);
   calls = offerOf 301 4 50 ∷ offerOf 300 6 1 ∷ offerOf 300 5 101 ∷ [];
   answered = (0 ∷ []) ∷ (0 ∷ []) ∷ (0 ∷ []) ∷ [];
@@ -100,7 +100,7 @@ clearedAfter6 = record {
 
 abbrev rows : List Row
 rows =
-    pruneLate ∷ noPromotion ∷ expiredAtTtl ∷ noIsNoBar ∷ lastBack ∷ sizeBeforeCap ∷ clearedAfter6 ∷ []
+    evictBeforePrune ∷ noPromotion ∷ expiredAtTtl ∷ noIsNoBar ∷ lastBack ∷ sizeBeforeCap ∷ clearedAfter6 ∷ []
 
 -- the answers, then what is held
 abbrev computed : Row → List (List ℕ)

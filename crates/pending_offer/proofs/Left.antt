@@ -135,13 +135,13 @@ module _ (w b : List ℕ) (ok : wellFormed w (length b) ≡ true) (clock : ℕ) 
       where
         no-records : (us : List TemplateRecord) → All Legal us → All (λ u. tally (u .label) stay ≡ 0) us →
             length us ≡ 0
-        no-records [] a gone = refl
-        no-records (u ∷ us) a gone =
+        no-records [] a none-stay = refl
+        no-records (u ∷ us) a none-stay =
             absurd (omega (
               arith,
               a .0 .some-bodies,
               a .0 .count-right,
-              gone .0,
+              none-stay .0,
               ap (tally (u .label)) (plans .keeps-all none),
             ))
 

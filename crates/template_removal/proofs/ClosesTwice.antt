@@ -41,7 +41,7 @@ module _ (first second : List ℕ) where
 
   -- the new positions s and t of a record, by the first closing and by the second alone
   record Twice (n m : ℕ) (rs : List TemplateRecord) (s t : ℕ) : Type 0 where
-    pub gone : nowhere ≤ s → t ≡ nowhere
+    pub nowhere-by-both : nowhere ≤ s → t ≡ nowhere
     pub low : s < nowhere → n ≤ s
     pub stays : s < nowhere → getD (positions second m (closed first rs)) (s - n) nowhere ≡ t
 
@@ -50,17 +50,17 @@ module _ (first second : List ℕ) where
   unfolding closed positions
   twice n m [] a l i =
       let z : getD {A = ℕ} [] i nowhere ≡ nowhere = List·getD-eq-default {A = ℕ} [] nowhere {n = i} (omega arith) in
-      rw z record { gone = λ _. refl; low = λ h. absurd (omega arith); stays = λ h. absurd (omega arith) }
+      rw z record { nowhere-by-both = λ _. refl; low = λ h. absurd (omega arith); stays = λ h. absurd (omega arith) }
   twice n m (r ∷ rs) a l zero = by-test (remains first r) refl
     where
       by-test : (t : Bool) → remains first r ≡ t →
           Twice n m (r ∷ rs) (cond t n nowhere) (cond (remains second r) m nowhere)
       by-test true e =
           let z : n - n ≡ 0 = omega arith in
-          record { gone = λ h. absurd (omega arith); low = λ h. omega arith; stays = λ h. rw (e, z) }
+          record { nowhere-by-both = λ h. absurd (omega arith); low = λ h. omega arith; stays = λ h. rw (e, z) }
       by-test false e =
           record {
-            gone = λ h. rw (emptied-goes r (a .0) e);
+            nowhere-by-both = λ h. rw (emptied-goes r (a .0) e);
             low = λ h. absurd (omega arith);
             stays = λ h. absurd (omega arith);
           }
@@ -78,7 +78,7 @@ module _ (first second : List ℕ) where
       by-test true e one same =
           let s = getD (positions first (n + 1) rs) i nowhere in
           record {
-            gone = one .gone;
+            nowhere-by-both = one .nowhere-by-both;
             low = λ h. omega (arith, one .low h);
             stays = λ h.
                 let z : s - n ≡ suc (s - (n + 1)) = omega (arith, one .low h) in
@@ -90,7 +90,11 @@ module _ (first second : List ℕ) where
           let from-there : getD (positions second m (closed first rs)) (s - n) nowhere
           ≡ getD (positions second m′ (closed first rs)) (s - n) nowhere =
           ap (λ (j : ℕ). getD (positions second j (closed first rs)) (s - n) nowhere) z in
-          record { gone = same .gone; low = same .low; stays = λ h. rw e (from-there ∙ same .stays h) }
+          record {
+            nowhere-by-both = same .nowhere-by-both;
+            low = same .low;
+            stays = λ h. rw e (from-there ∙ same .stays h);
+          }
 
   remapped-twice : (rs : List TemplateRecord) → All Emptied rs → length rs ≤ nowhere → (is : List ℕ) →
       remapped (positions second 0 (closed first rs)) (remapped (positions first 0 rs) is)
@@ -118,7 +122,7 @@ module _ (first second : List ℕ) where
           let z : s - 0 ≡ s = omega arith in
           let there : getD again s nowhere ≡ t = rw z at (both .stays (ltb-true s nowhere e)) in
           rw (there, ih)
-      by-place false e ih both = rw (both .gone (ltb-false s nowhere e)) ih
+      by-place false e ih both = rw (both .nowhere-by-both (ltb-false s nowhere e)) ih
 
   module _ {p k n : ℕ} {w w₁ : List ℕ} (emptied : All Emptied (recordsFrom w p k)) (few : k ≤ nowhere)
       (rises : indexRises (recordsFrom w p k) 0 (indexFrom w p k) ≡ true) (a : Closes p k first w w₁ n) where

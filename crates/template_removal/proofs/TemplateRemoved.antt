@@ -167,8 +167,8 @@ module _ (w : List ℕ) (n : ℕ) (ok : wellFormed w n ≡ true) (label apart : 
   none-left : All (λ u. apart ≡ u .label → ⊥) (closed kept rs) → 0 ≡ getD kept apart 0
   none-left absent = by-count (ltb 0 (getD kept apart 0)) refl (ltb apart 1024) refl
     where
-      gone : hasLabel apart rs && ltb 0 (getD kept apart 0) ≡ false
-      gone = sym (has-closed kept apart rs) ∙ absent-holds apart (closed kept rs) absent
+      no-record-left : hasLabel apart rs && ltb 0 (getD kept apart 0) ≡ false
+      no-record-left = sym (has-closed kept apart rs) ∙ absent-holds apart (closed kept rs) absent
 
       unknown : (t : Bool) → hasLabel apart rs ≡ t → t && true ≡ false → tally apart stay ≡ 0
       unknown true e h = absurd (false≢true (sym h))
@@ -177,7 +177,7 @@ module _ (w : List ℕ) (n : ℕ) (ok : wellFormed w n ≡ true) (label apart : 
       by-count : (s : Bool) → ltb 0 (getD kept apart 0) ≡ s → (t : Bool) → ltb apart 1024 ≡ t → 0 ≡ getD kept apart 0
       by-count false e t f = omega (arith, ltb-false 0 (getD kept apart 0) e)
       by-count true e true f =
-          sym (label-has apart (ltb-true apart 1024 f) ∙ unknown (hasLabel apart rs) refl (rw e at gone))
+          sym (label-has apart (ltb-true apart 1024 f) ∙ unknown (hasLabel apart rs) refl (rw e at no-record-left))
       by-count true e false f =
           let long : length (replicate {A = ℕ} 1024 0) ≡ 1024 = length-replicate {A = ℕ} 1024 0 in
           sym (List·getD-eq-default kept 0 {n = apart}
