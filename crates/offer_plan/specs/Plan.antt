@@ -18,7 +18,7 @@ use Rattle.table.specs.declared.LabelFound.the-variants as Label
 use Rattle.table.specs.Layout.{limitsOf, heldCount}
 use Rattle.table.specs.Table.{tableOf, tally}
 use Rattle.table.specs.Passes.{firstLabel}
-use Rattle.table.specs.Reads.{labelIn, countIn, labelOf, labelOrNone, countOf, liveCount}
+use Rattle.table.specs.Reads.{labelOf, labelOrNone, countOf, liveCount}
 use Rattle.table_entries.specs.declared.StayTest.{StayTest}
 use Rattle.table_entries.specs.Sums.{summed}
 use Rattle.table_entries.specs.Sweep.{swept}

@@ -1,9 +1,9 @@
 -- Areas before and after clearing. Assumes nothing.
-use mathlib.Core.Path.{_≡_, refl, ap, sym, _∙_}
+use mathlib.Core.Path.{_≡_, refl, _∙_}
 use mathlib.Core.Bool.{Bool, true, false}
 use mathlib.Core.List.{List}
 use mathlib.Core.Option.{some}
-use Prim.Native.Nat.{ℕ, _≤_, _<_}
+use Prim.Native.Nat.{ℕ, _≤_}
 use native.Mathlib.Omega.{arith}
 use lib.ListN.{length}
 use borrow.Author.Tests.{le-leb, eq-eqb}
@@ -15,7 +15,7 @@ use Rattle.table.specs.Layout.{limitsOf, cachedWord, droppedWord, ttlSet}
 use Rattle.table.specs.Table.{tableOf, entriesFrom, recordsFrom, indexFrom}
 use Rattle.table.specs.WellFormed.{wellFormed, indexRises}
 use Rattle.table.proofs.Facts.{LegalWords, words-say}
-use Rattle.cache_model.specs.Cache.{Cache, done}
+use Rattle.cache_model.specs.Cache.{done}
 use Rattle.cache_model.specs.Calls.{cleared}
 use Rattle.pending_flows.specs.View.{areasOf, cacheOf, view}
 use Rattle.pending_flows.specs.declared.header.HeaderFigures.{HeaderFigures}

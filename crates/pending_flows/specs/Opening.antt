@@ -1,7 +1,6 @@
 -- What opening promises.
 use mathlib.Core.Path.{_≡_}
 use mathlib.Core.Logic.{_≢_}
-use Prim.Native.Nat.{ℕ}
 use lib.ListN.{length, drop}
 use Rattle.config.specs.declared.PendingFlowsConfig.{PendingFlowsConfig}
 use Rattle.config.specs.declared.ConfigAnswer.{ConfigAnswer}

@@ -15,7 +15,7 @@ use Rattle.config.proofs.Limits as Config
 use Rattle.table.specs.declared.Entry.{Entry}
 use Rattle.table.specs.declared.TemplateRecord.{TemplateRecord}
 use Rattle.table.specs.Layout.{limitsOf, entryCount, entriesAt, recordsAt}
-use Rattle.table.specs.Table.{tableOf, entriesFrom, recordsFrom, indexFrom, records}
+use Rattle.table.specs.Table.{tableOf, entriesFrom, recordsFrom, indexFrom}
 use Rattle.table.specs.Reads.{countSum}
 use Rattle.table.specs.WellFormed.{wellFormed}
 use Rattle.table.proofs.Words.{length-records, length-entries, length-index}

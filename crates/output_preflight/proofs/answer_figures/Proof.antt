@@ -1,9 +1,6 @@
 use borrow.Author.Needs.{needs}
 use Rattle.output_preflight.proofs.answer_figures.Statement.{statement}
 use Rattle.output_preflight.proofs.answer_figures.Tie as tie
-use Rattle.output_preflight.proofs.answer_figures.Reads as reads
-use Rattle.output_preflight.proofs.answer_figures.Lts as lts
-use Rattle.output_preflight.proofs.refusal_number.Reads as refusal-number-reads
 
 -- src/lib.rt:67:32
 enum-known-answer : tie.Need-enum-known-answer

@@ -1,5 +1,4 @@
 use Prim.Native.Nat.{_-_}
-use mathlib.Core.Path.{_∙_}
 use lib.ListN.{length}
 use Rattle.pendlist_rows.proofs.Texts.{NumbersPut, none-put, one-put, all-put}
 use borrow.Author.Needs.{needs}

@@ -4,16 +4,6 @@ use lib.ListN.{length}
 use borrow.Author.Needs.{needs}
 use Rattle.replay_preflight.proofs.main.Statement.{statement}
 use Rattle.replay_preflight.proofs.main.Tie as tie
-use Rattle.replay_preflight.proofs.main.Reads as reads
-use Rattle.replay_preflight.proofs.main.Lts as lts
-use Rattle.io.proofs.large_buffer.Reads as large-buffer-reads
-use Rattle.recorded.proofs.fill.Reads as fill-reads
-use Rattle.recorded.proofs.move_to_front.Reads as move-to-front-reads
-use Rattle.recorded.proofs.whole_lines.Reads as whole-lines-reads
-use Rattle.recorded.proofs.tally.Tally.new.Reads as new-reads
-use Rattle.recorded.proofs.tally.Tally.print.Reads as print-reads
-use Rattle.replay_preflight.proofs.run_lines.Reads as run-lines-reads
-use Rattle.replay_preflight.proofs.run_wrong_rows.Reads as run-wrong-rows-reads
 
 abbrev Inv-loop : tie.InvT-loop
 Inv-loop buffer₀ tally₀ kept₀ turn₀ buffer tally kept turn = (kept ≤ 65536) × (length buffer ≡ 65536)

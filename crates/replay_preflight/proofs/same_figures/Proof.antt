@@ -2,8 +2,6 @@ use borrow.Author.Needs.{needs}
 use Rattle.replay_preflight.proofs.Comparisons.{numbers-differ, values-differ, payload-differs, by-remainder}
 use Rattle.replay_preflight.proofs.same_figures.Statement.{statement}
 use Rattle.replay_preflight.proofs.same_figures.Tie as tie
-use Rattle.replay_preflight.proofs.same_figures.Reads as reads
-use Rattle.replay_preflight.proofs.same_figures.Lts as lts
 
 returns : tie.Need-returns
 returns c = search (numbers-differ, needs)

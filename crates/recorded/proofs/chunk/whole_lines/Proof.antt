@@ -1,4 +1,4 @@
-use Prim.Native.Nat.{_-_, _≤_}
+use Prim.Native.Nat.{_≤_}
 use borrow.Author.Needs.{needs}
 use Rattle.recorded.proofs.chunk.whole_lines.Statement.{statement}
 use Rattle.recorded.proofs.chunk.whole_lines.Tie as tie
