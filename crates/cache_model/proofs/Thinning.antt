@@ -169,7 +169,8 @@ without-thinned i (t ∷ ts) d h = by-test (eqb i (t .id)) refl (without-thinned
     by-test : (q : Bool) → eqb i (t .id) ≡ q → without i ts ≡ thinned other ts
         → cond q ts (t ∷ without i ts) ≡ unlessEmpty (t .id) (cond q [] (t .bodies)) (thinned other ts)
     by-test true e r =
-        sym (thinned-all other ts (h .1) (all-map (λ (u : Template). i ≢ u .id) (λ u. other (u .id) (u .bodies) ≡ u .bodies)
+        sym (thinned-all other ts (h .1)
+        (all-map (λ (u : Template). i ≢ u .id) (λ u. other (u .id) (u .bodies) ≡ u .bodies)
         (λ u n. rw (ne-eqb i (u .id) n)) ts (absent-behind i t ts e d)))
     by-test false e r = rw r (sym (unless-empty-filled (t .id) (t .bodies) (thinned other ts) (h .0)))
 

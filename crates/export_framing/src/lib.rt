@@ -21,7 +21,8 @@ fn export(answer: PreflightAnswer, cost: &mut [u64; 3]) -> u32
     }
 }
 
-// The preflight of a body in a reading, handed over: once for all three, so that the answer crosses without being stored.
+// The preflight of a body in a reading, handed over: once for all three, so that the answer crosses without being
+// stored.
 fn measure(
     body: &[u8],
     widths: &[u16],

@@ -277,7 +277,8 @@ module _ (w b : List ℕ) (id len clock : ℕ) where
           record {
             verdict = λ x e. ap (λ (p : Plan). p .verdict) (plan-is x e) ∙ verdict-is;
             label = labelled;
-            thins = λ x e. all-map Told _ (λ u t. told-thins u t ∙ sym (thin-is x e (u .key) (bodiesAt b (u .label) es)))
+            thins = λ x e.
+                all-map Told _ (λ u t. told-thins u t ∙ sym (thin-is x e (u .key) (bodiesAt b (u .label) es)))
                 held held-told;
             ends-chance = all-handed-skipped leaving handed (d .first)
                 (all-back (λ u. u .label < 1024) held handed (rows w b ok .labels-small));

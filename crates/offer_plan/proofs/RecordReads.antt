@@ -70,7 +70,8 @@ module _ (b : List ℕ) (es : List Entry) where
   -- one where there is room without its bytes
   pub one-evicted : (most more : ℕ) (rs : List TemplateRecord) → more ≤ most →
       most - more < sumTemplates size (templatesAt b es rs) →
-      sumTemplates size (templatesAt b es rs) - firstSize rs ≤ most - more → 1 ≡ evictions most more (templatesAt b es rs)
+      sumTemplates size (templatesAt b es rs) - firstSize rs ≤ most - more →
+      1 ≡ evictions most more (templatesAt b es rs)
   unfolding evictions
   one-evicted most more [] fits full room = omega arith
   one-evicted most more (r ∷ rs) fits full room =

@@ -75,7 +75,8 @@ module _ (leaving handed : List TemplateRecord) (label : ℕ) where
   pub all-handed-skipped : All (λ u. u .label < 1024) handed → All (λ u. getD skipped (u .label) 0 ≡ skipAll) handed
   all-handed-skipped small =
       all-both (λ u. u .label < 1024) (λ u. hasLabel (u .label) handed ≡ true)
-      (λ u. getD skipped (u .label) 0 ≡ skipAll) (λ u s h. handed-skipped (u .label) s h) handed small (own-labels handed)
+      (λ u. getD skipped (u .label) 0 ≡ skipAll) (λ u s h. handed-skipped (u .label) s h)
+      handed small (own-labels handed)
 
 -- a number for each label
 pub skips-long : (w : List ℕ) (r : OfferPlan) → length (skipOf w r) ≡ 1024

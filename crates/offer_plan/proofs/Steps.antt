@@ -63,7 +63,8 @@ module _ (live : List ℕ) where
   all-counted (r ∷ rs) a =
       let ih = all-counted rs (a .1) in rw (lt-ltb 0 (getD live (r .label) 0) (a .0)) (omega (arith, ih))
 
-  first-found : (rs : List TemplateRecord) → All (λ r. 0 < getD live (r .label) 0) rs → firstLive live rs ≡ firstLabel rs
+  first-found : (rs : List TemplateRecord) → All (λ r. 0 < getD live (r .label) 0) rs →
+      firstLive live rs ≡ firstLabel rs
   unfolding firstLive
   first-found [] a = refl
   first-found (r ∷ rs) a = rw (lt-ltb 0 (getD live (r .label) 0) (a .0))
@@ -200,10 +201,11 @@ module _ (w b : List ℕ) (ok : wellFormed w (length b) ≡ true) (l : PendingFl
 
       pub first-within : first .bytes ≤ f .total
       first-within =
-          omega (arith, first-is, all-bytes, first-size b (tableOf w .entries) (tableOf w .held) (omega (arith, all-bytes)))
+          let part = first-size b (tableOf w .entries) (tableOf w .held) (omega (arith, all-bytes)) in
+          omega (arith, first-is, all-bytes, part)
 
       pub one-makes-room : f .total - first .bytes ≤ l .«max_total_bytes» - len →
           1 ≡ evictions (l .«max_total_bytes») len (cacheOf (tableOf w) b .held)
       one-makes-room room =
-          one-evicted b (tableOf w .entries) (l .«max_total_bytes») len (tableOf w .held) fits (omega (arith, all-bytes))
-          (omega (arith, all-bytes, first-is))
+          one-evicted b (tableOf w .entries) (l .«max_total_bytes») len (tableOf w .held) fits
+          (omega (arith, all-bytes)) (omega (arith, all-bytes, first-is))

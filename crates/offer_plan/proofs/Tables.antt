@@ -120,7 +120,8 @@ module _ (w b : List ℕ) (ok : wellFormed w (length b) ≡ true) where
   label-bytes-read k small =
       let lens : liveLens None 0 k es ≡ sumBodies size (bodiesAt b k es) =
       live-lens b None 0 k es within ∙ ap (sumBodies size) (keep-true (bodiesAt b k es)) in
-      let few = sizes-most b k small es within short (limitsOf w .«max_total_bytes») (legal .table-legal .entries-placed) in
+      let few = sizes-most b k small es within short (limitsOf w .«max_total_bytes»)
+      (legal .table-legal .entries-placed) in
       mod-eq-of-lt (omega (arith, lens, few, legal .limits-legal .total-small)) ∙ lens
 
   -- of the first template

@@ -75,7 +75,8 @@ fn live_test(ttl: Ttl, clock: u64) -> StayTest
     }
 }
 
-// How many live bodies the record that was found has. With no time to live none is expired, and its count says how many.
+// How many live bodies the record that was found has. With no time to live none is expired, and its count says how
+// many.
 fn live_in(words: &[u64], entries: usize, ttl: Ttl, clock: u64, found: RecordFound) -> usize
     requires { ⌜ entriesAt + entryWords * entries ≤ length (now words) ⌝ }
     requires { ⌜ CountRight (entriesFrom (now words) entriesAt entries) found ⌝ }

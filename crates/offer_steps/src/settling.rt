@@ -23,7 +23,8 @@ use table::DROPPED;
 // Counts one more dropped body.
 pub fn count_drop(words: &mut [u64])
     requires { ⌜ headerWords ≤ length (now words) ⌝ }
-    ensures { λ _. ⌜ now (words .exit) ≡ set (now (words .entry)) droppedAt (raised (droppedWord (now (words .entry))) 1) ⌝ }
+    ensures { λ _.
+        ⌜ now (words .exit) ≡ set (now (words .entry)) droppedAt (raised (droppedWord (now (words .entry))) 1) ⌝ }
 {
     words[DROPPED] = raised(words[DROPPED], 1);
 }

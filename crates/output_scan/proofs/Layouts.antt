@@ -17,7 +17,8 @@ no-variable-plain [] e = tt
 no-variable-plain (w ∷ ws) e = by-kind (isVariable w IpfixVariable) refl e (no-variable-plain ws)
   where
     by-kind : (b : Bool) → isVariable w IpfixVariable ≡ b → cond b true (hasVariable ws) ≡ false →
-        (hasVariable ws ≡ false → Plain ws IpfixVariable) → (isVariable w IpfixVariable ≡ false) × Plain ws IpfixVariable
+        (hasVariable ws ≡ false → Plain ws IpfixVariable) →
+        (isVariable w IpfixVariable ≡ false) × Plain ws IpfixVariable
     by-kind true f g ih = absurd (never g)
       where
         never : true ≡ false → ⊥

@@ -1,5 +1,5 @@
--- The loop over the fields of a record whose least size was set aside first: what is left behind it shrinks only by what
--- a variable-length field takes beyond its least size, one byte. Assumes nothing.
+-- The loop over the fields of a record whose least size was set aside first: what is left behind it shrinks only by
+-- what a variable-length field takes beyond its least size, one byte. Assumes nothing.
 use mathlib.Core.Path.{_≡_, refl, ap, sym, _∙_}
 use mathlib.Core.Bool.{Bool, true, false}
 use mathlib.Core.List.{List}
@@ -246,7 +246,8 @@ module _ {bytes ws next : List ℕ} {at prefixes i : ℕ} (inv : FieldsSpared by
               let d = tail-length 2 next in
               variable-cut k long-here (omega arith)
 
-  pub all-spared : length ws ≤ i → 0 < leastSize ws IpfixVariable → recordOf bytes ws IpfixVariable ≡ Whole at (at - prefixes)
+  pub all-spared : length ws ≤ i → 0 < leastSize ws IpfixVariable →
+      recordOf bytes ws IpfixVariable ≡ Whole at (at - prefixes)
   all-spared l m =
       let e = all-passed (inv .passed) l in
       let f = rw e at (fields-least bytes ws IpfixVariable) in

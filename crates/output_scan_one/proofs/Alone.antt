@@ -58,7 +58,8 @@ find-alone {bytes} {ws} {next} (w ∷ vs) {at} {lead} {i} e inv f = by-kind (isV
         Alone bytes ws next (at + lead)
     by-kind true k g ih = by-others (hasVariable vs) refl g
       where
-        by-others : (b : Bool) → hasVariable vs ≡ b → cond b Several (One 0) ≡ One lead → Alone bytes ws next (at + lead)
+        by-others : (b : Bool) → hasVariable vs ≡ b → cond b Several (One 0) ≡ One lead →
+            Alone bytes ws next (at + lead)
         by-others true o u = absurd (let z : _≡_ {A = ℕ} 0 1 = cc in omega arith)
         by-others false o u =
             let z : 0 ≡ lead = cc in

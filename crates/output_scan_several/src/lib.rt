@@ -8,9 +8,9 @@ use output_fields::byte_at;
 use output_fields::long_length;
 use output_scan::Scanned;
 
-// The whole records of a body, field by field: at most `max_records`. The least size of a record is passed first: `next`
-// starts behind it, and a variable-length field moves it on. A cut field ends the scan before its record: it leaves the
-// loop 'records, and not 'fields alone.
+// The whole records of a body, field by field: at most `max_records`. The least size of a record is passed first:
+// `next` starts behind it, and a variable-length field moves it on. A cut field ends the scan before its record: it
+// leaves the loop 'records, and not 'fields alone.
 pub fn scan_fields(body: &[u8], widths: &[u16], least: usize, max_records: usize) -> Scanned
     requires { ⌜ (least ≡ leastSize (now widths) IpfixVariable) × (0 < least) ⌝ }
     ensures { λ r. ⌜ r ≡ scanOf (now (body .entry)) (now (widths .entry)) IpfixVariable «max_records» ⌝ }

@@ -9,7 +9,8 @@ ghost use Rattle.table.specs.Table.{entriesFrom, records, tally};
 ghost use Rattle.table.specs.WellFormed.{wellFormed};
 ghost use Rattle.table_entries.specs.Sweep.{swept};
 ghost use Rattle.pending_flows.specs.Header.{figuresAt};
-ghost use Rattle.pending_calls.specs.Removal.{everything, unexpired, ClosesApart, SkipsWhole, Removes, RemovesFrom};
+ghost use Rattle.pending_calls.specs.Removal.{everything, unexpired, ClosesApart, SkipsWhole, Removes};
+ghost use Rattle.pending_calls.specs.Removal.{RemovesFrom};
 use config::PendingFlowsConfig;
 use config::Ttl;
 use pending_flows::HeaderFigures;
@@ -145,7 +146,8 @@ pub fn remove_expired(
     requires { ⌜ live ≡ tally apart (swept (unexpired (limits .ttl) clock apart) (now skip) (entriesFrom (now words)
         entriesAt (figures .entries))) ⌝ }
     ensures { λ r.
-        ⌜ RemovesFrom (unexpired (limits .ttl) clock apart) apart (now (skip .entry)) (now (words .entry)) (now (words .exit)) r ⌝ }
+        ⌜ RemovesFrom (unexpired (limits .ttl) clock apart) apart (now (skip .entry)) (now (words .entry))
+        (now (words .exit)) r ⌝ }
 {
     let from = records_at(limits);
     let records = (figures.templates + figures.chance) as usize;

@@ -51,7 +51,9 @@ module _ (w b : List ℕ) (i now : ℕ) (ok : wellFormed w (length b) ≡ true) 
           (indexRises (recordsFrom w₁ p (r .records)) 0 (indexFrom w₁ p (r .records)) ≡ true)
 
       pub hand-ready : Ready p
-      hand-ready = as-labelled w limits figures from i labelled (λ l f p a. TakesOut (l .ttl) now a p f w w₁ r → Ready p) ready out
+      hand-ready =
+          as-labelled w limits figures from i labelled (λ l f p a. TakesOut (l .ttl) now a p f w w₁ r → Ready p)
+          ready out
         where
           legal : LegalWords w (length b)
           legal = words-say w (length b) ok

@@ -79,10 +79,11 @@ module _ (w : List ℕ) (plan : OfferPlan) {f : HeaderFigures} {l : PendingFlows
         let label : r ≡ firstLabel (tableOf w .held) = (rw (from, limits, figures) at is) ∙ ap firstLabel (sym held) in
         let one : skipping zeros (take 1 (tableOf w .held)) ≡ set zeros r skipAll =
         first-skipped (tableOf w .held) ∙ ap (λ (j : ℕ). set zeros j skipAll) (sym label) in
+        let long = length-set zeros r skipAll in
         record {
           no-ttl = no-time;
           skips = rw (none-handed none, evicts, one)
-              (set-out (set zeros r skipAll) (plan .first) skipAll (omega (arith, zeros-long, length-set zeros r skipAll)));
+              (set-out (set zeros r skipAll) (plan .first) skipAll (omega (arith, zeros-long, long)));
         }
 
 -- the held records, where they are looked at
@@ -130,8 +131,8 @@ expired-alone w clock apart plan {l = l} {w′} {r} figures limits t certainly h
     ∙ ap (unexpired (limitsOf w .ttl) clock) (only .own)
     ∙ ap (λ (c : PendingFlowsConfig). unexpired (c .ttl) clock apart) (sym limits) in
     subst (λ (q : StayTest). Removes q p k (entryCount w) apart (skipOf w plan) w w′ r) (sym tests)
-    (subst (λ (skip : List ℕ). Removes (unexpired (l .ttl) clock apart) p k (entryCount w) apart skip w w′ r) (sym skips)
-    done)
+    (subst (λ (skip : List ℕ). Removes (unexpired (l .ttl) clock apart) p k (entryCount w) apart skip w w′ r)
+    (sym skips) done)
   where
     testOf : Ttl → Bool → ℕ → StayTest
     testOf ttl all label = record {

@@ -60,8 +60,8 @@ module _ {p k m most : ℕ} {w : List ℕ} (h : Rows p k m most w) (q : StayTest
   counts-tally : (j : ℕ) → j < 1024 → getD (countsOf stay) j 0 ≡ tally j stay
   counts-tally j small =
       ap (λ (l : List ℕ). getD l j 0) (counts-but-none stay)
-      ∙ label-counts stay (omega (arith, few, length-swept q skip es)) (all-swept (λ e. e .len ≤ lenMost) q skip es short)
-      j small
+      ∙ label-counts stay (omega (arith, few, length-swept q skip es))
+      (all-swept (λ e. e .len ≤ lenMost) q skip es short) j small
 
   module _ {w′ : List ℕ} {r : Removed} (s : RemovesSkipped q p k m skip w w′ r) where
     left-tied : Tied (recordsFrom w′ p (r .records)) (entriesFrom w′ entriesAt (r .entries))

@@ -1,6 +1,6 @@
--- What the pass over the entries computes, as its loop goes. It stands here because the contract of the pass cites it. A
--- reader need not believe it: crate `table_check`, proofs/Passes.antt, shows that together with the other passes it is
--- `tableLegal`.
+-- What the pass over the entries computes, as its loop goes. It stands here because the contract of the pass cites it.
+-- A reader need not believe it: crate `table_check`, proofs/Passes.antt, shows that together with the other passes it
+-- is `tableLegal`.
 use mathlib.Core.List.{List, [], _∷_}
 use mathlib.Core.Bool.{Bool, _&&_}
 use Prim.Native.Nat.{ℕ, _+_}

@@ -1,6 +1,6 @@
--- What the passes over the records and the index compute, each as its loop goes. They stand here because the contracts of
--- the passes cite them. A reader need not believe them: crate `table_check`, proofs/Passes.antt, shows that together with
--- the pass over the entries they are `tableLegal`.
+-- What the passes over the records and the index compute, each as its loop goes. They stand here because the contracts
+-- of the passes cite them. A reader need not believe them: crate `table_check`, proofs/Passes.antt, shows that together
+-- with the pass over the entries they are `tableLegal`.
 use mathlib.Core.Path.{_≡_}
 use mathlib.Core.List.{List, [], _∷_}
 use mathlib.Core.Bool.{Bool, true, _&&_}

@@ -89,7 +89,8 @@ module _ (kept : List ℕ) (rs : List TemplateRecord) where
 pub free-found : (w : List ℕ) (p n : ℕ) (used : List ℕ) (k : ℕ) → n < 1024 →
     used ≡ skipping (replicate 1024 0) (recordsFrom w p n) → k ≡ leastFree used 0 1024 → FreeLabel (recordsFrom w p n) k
 free-found w p n used k few is least =
-    let found = least-free used rs (omega (arith, length-records w p n)) (λ j h some. has-some j h (hasLabel j rs) refl some) in
+    let found = least-free used rs (omega (arith, length-records w p n))
+    (λ j h some. has-some j h (hasLabel j rs) refl some) in
     let below : k < 1024 = omega (arith, found .0) in
     record { below = below; absent = has-none below (hasLabel k rs) refl (rw least (found .1)) }
   where

@@ -28,7 +28,8 @@ pub fn remove_expired_of(
     requires { ⌜ (wellFormed (now words) (length (now bytes)) ≡ true) × (limits ≡ limitsOf (now words)) ⌝ }
     requires { ⌜ figures ≡ figuresAt (now words) ⌝ }
     ensures { λ r.
-        ⌜ RemovesFrom (unexpired (limits .ttl) clock label) label (replicate 1024 0) (now (words .entry)) (now (words .exit)) r ⌝ }
+        ⌜ RemovesFrom (unexpired (limits .ttl) clock label) label (replicate 1024 0) (now (words .entry))
+        (now (words .exit)) r ⌝ }
 {
     let from = records_at(limits);
     let records = (figures.templates + figures.chance) as usize;

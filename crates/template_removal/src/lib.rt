@@ -33,7 +33,8 @@ pub fn remove_template(
     requires { ⌜ (wellFormed (now words) (length (now bytes)) ≡ true) × (limits ≡ limitsOf (now words)) ⌝ }
     requires { ⌜ figures ≡ figuresAt (now words) ⌝ }
     ensures { λ r.
-        ⌜ RemovesFrom everything apart (set (replicate 1024 0) label skipAll) (now (words .entry)) (now (words .exit)) r ⌝ }
+        ⌜ RemovesFrom everything apart (set (replicate 1024 0) label skipAll) (now (words .entry))
+        (now (words .exit)) r ⌝ }
 {
     let from = records_at(limits);
     let records = (figures.templates + figures.chance) as usize;

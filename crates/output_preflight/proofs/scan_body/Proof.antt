@@ -20,7 +20,8 @@ enum-told-3 c = search needs
 
 scan-variable-body-requires : tie.Need-scan-variable-body-requires
 scan-variable-body-requires c κs =
-    (c .before .before .before .before .pre .0, rw (c .enum-told3 .given .1) at (c .before .before .before .before .pre .1), c .before .before .before .before .pre .2)
+    let start : tie.Start = search needs in
+    (start .pre .0, rw (c .enum-told3 .given .1) at (start .pre .1), start .pre .2)
 
 returns : tie.Need-returns
 returns c = by-division _ _ _ _ _ _ (all-plain _ (λ w. rw (c .before .enum-told .given .1)) _)

@@ -18,8 +18,8 @@ Inv-loop body widths lead least max-records rest₀ records₀ long₀ rest reco
 abbrev μ-loop : tie.MeasureT-loop
 μ-loop body widths lead least max-records rest₀ records₀ long₀ rest records long = max-records - records
 
--- the places that the needs below go back to: the function's start, the loop's top, the record that is read, where it is
--- long enough, and where the step and the content of its variable-length field are known
+-- the places that the needs below go back to: the function's start, the loop's top, the record that is read, where it
+-- is long enough, and where the step and the content of its variable-length field are known
 abbrev Start : Type 0
 Start = tie.Start Inv-loop μ-loop
 
@@ -67,8 +67,8 @@ stepped c =
     ⊎-elim
     (λ w. long-step _ _ _ (lead-first (c .before .before)) (w .1 .left) (c .before .byte-at .ensures .0) (w .0 .taken)
     (w .2 .ensures .0) (w .3) (w .4))
-    (λ w. short-step _ _ _ (lead-first (c .before .before)) (c .before .before .if1 .left) (c .before .byte-at .ensures .0)
-    (c .before .byte-at .ensures .1) (w .0 .left) (w .1) (w .2))
+    (λ w. short-step _ _ _ (lead-first (c .before .before)) (c .before .before .if1 .left)
+    (c .before .byte-at .ensures .0) (c .before .byte-at .ensures .1) (w .0 .left) (w .1) (w .2))
     (c .if2 .came)
 
 sub-if4 : tie.Need-sub-if4 Inv-loop μ-loop
@@ -114,8 +114,9 @@ loop-again c =
     let start : Start = search needs in
     let record-here : Record = search needs in
     let known : Known = search needs in
-    alone-passed _ _ (record-here .before .loop .rest .now) (record-here .before .loop .inv) (start .pre .0) (start .pre .1)
-    (known .before .before .if1 .left) (stepped known) (record-here .loop-test .taken) (c .before .before .before .if4 .left)
+    alone-passed _ _ (record-here .before .loop .rest .now) (record-here .before .loop .inv)
+    (start .pre .0) (start .pre .1) (known .before .before .if1 .left) (stepped known)
+    (record-here .loop-test .taken) (c .before .before .before .if4 .left)
 
 add-long : tie.Need-add-long Inv-loop μ-loop
 add-long c = omega (arith, loop-again c)

@@ -75,7 +75,9 @@ cast-at : tie.Need-cast-at Inv-fields μ-fields Inv-records μ-records
 cast-at c = omega (arith, c .before .shared-slice-known3 .given (c .before .before .before .fields .i))
 
 fields-again : tie.Need-fields-again Inv-fields μ-fields Inv-records μ-records
-fields-again c = fixed-spared (c .before .before .before .fields .inv) (c .before .before .fields-test .taken) refl (c .if2 .taken)
+fields-again c =
+    let field : Field = search needs in
+    fixed-spared (field .before .fields .inv) (field .fields-test .taken) refl (c .if2 .taken)
 
 add-at : tie.Need-add-at Inv-fields μ-fields Inv-records μ-records
 add-at c = omega (arith, fields-again c)
@@ -84,7 +86,9 @@ fields-less : tie.Need-fields-less Inv-fields μ-fields Inv-records μ-records
 fields-less c = search needs
 
 byte-at-requires : tie.Need-byte-at-requires Inv-fields μ-fields Inv-records μ-records
-byte-at-requires c κs = omega (arith, starts-inside (c .before .before .before .fields .inv) (c .before .before .fields-test .taken) (c .if2 .left))
+byte-at-requires c κs =
+    let field : Field = search needs in
+    omega (arith, starts-inside (field .before .fields .inv) (field .fields-test .taken) (c .if2 .left))
 
 sub-next-2 : tie.Need-sub-next-2 Inv-fields μ-fields Inv-records μ-records
 sub-next-2 c = search needs
@@ -130,7 +134,8 @@ long-length-requires c κs =
     omega (
       arith,
       long-inside (field .before .fields .inv) (field .fields-test .taken) (prefix .before .if2 .left)
-          (prefix .byte-at .ensures .0) (c .before .before .if3 .left) (prefix .byte-at .ensures .1) (c .before .if5 .left),
+          (prefix .byte-at .ensures .0) (c .before .before .if3 .left) (prefix .byte-at .ensures .1)
+          (c .before .if5 .left),
     )
 
 sub-next-4 : tie.Need-sub-next-4 Inv-fields μ-fields Inv-records μ-records

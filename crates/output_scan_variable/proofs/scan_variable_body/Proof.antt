@@ -32,8 +32,8 @@ returns : tie.Need-returns
 returns c =
     let start : tie.Start = search needs in
     by-division _ _ _ _ _ _
-    (fixed-plain _ (sym (c .before .before .before .layout-of .ensures) ∙ c .before .enum-told .given .1)) (start .pre .1)
-    (start .pre .2) (c .scan-fixed-body .ensures)
+    (fixed-plain _ (sym (c .before .before .before .layout-of .ensures) ∙ c .before .enum-told .given .1))
+    (start .pre .1) (start .pre .2) (c .scan-fixed-body .ensures)
 
 returns-2 : tie.Need-returns-2
 returns-2 c = search needs

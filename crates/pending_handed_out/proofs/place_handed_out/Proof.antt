@@ -25,7 +25,8 @@ enum-told-2 c = search needs
 returns-2 : tie.Need-returns-2
 returns-2 c =
     let known = c .before .before .before in
-    not-handed-out _ _ _ (known .before .before .examine .ensures) (known .seen .given .1) refl (c .enum-told2 .given .1)
+    not-handed-out _ _ _ (known .before .before .examine .ensures) (known .seen .given .1) refl
+    (c .enum-told2 .given .1)
 
 returns-3 : tie.Need-returns-3
 returns-3 c =

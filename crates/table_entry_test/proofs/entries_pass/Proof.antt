@@ -1,7 +1,8 @@
 use borrow.Author.Needs.{needs}
 use borrow.Author.Tests.{not-true, not-false}
-use Rattle.table_entry_test.proofs.EntriesPass.{EntriesPassed, no-entry-passed, large-label, none-left, misplaced}
-use Rattle.table_entry_test.proofs.EntriesPass.{end-fits, held-fits, entry-passed, total-wrong, total-right}
+use Rattle.table_entry_test.proofs.EntriesPass.{EntriesPassed, no-entry-passed, large-label, none-left}
+use Rattle.table_entry_test.proofs.EntriesPass.{misplaced, end-fits, held-fits, entry-passed, total-wrong}
+use Rattle.table_entry_test.proofs.EntriesPass.{total-right}
 use Rattle.table_watch.proofs.Watched.{Watched, none-watched, entry-watched, all-watched}
 use Rattle.table_watch.proofs.Verdicts.{damaged, shown}
 use Rattle.table_entry_test.proofs.entries_pass.Statement.{statement}

@@ -40,8 +40,8 @@ cast-set-sum c =
     let counted : tie.After-count-whole = c .before in
     let start = start-of (read-of (tested-of counted)) in
     record {
-      fits = live-small _ (start .args .bytes .now) (start .pre .0 .0) (start .pre .1 .0 .1) _ (start .pre .1 .0 .0) _ _ _
-          (start .pre .1 .1);
+      fits = live-small _ (start .args .bytes .now) (start .pre .0 .0) (start .pre .1 .0 .1) _ (start .pre .1 .0 .0)
+          _ _ _ (start .pre .1 .1);
     }
 
 set-sum-requires : tie.Need-set-sum-requires

@@ -34,8 +34,10 @@ sweep-staying-requires c κs =
     let tested : tie.After-label-test = c .before in
     let read = read-of tested in
     let start = start-of read in
-    let below = entries-below _ _ (start .pre .0 .0) _ (start .pre .1) _ (start .pre .0 .1) _ (read .records-at .ensures) in
-    let inside = records-inside _ _ (start .pre .0 .0) _ (start .pre .1) _ (start .pre .0 .1) _ (read .records-at .ensures) in
+    let below = entries-below _ _ (start .pre .0 .0) _ (start .pre .1) _ (start .pre .0 .1) _
+    (read .records-at .ensures) in
+    let inside = records-inside _ _ (start .pre .0 .0) _ (start .pre .1) _ (start .pre .0 .1) _
+    (read .records-at .ensures) in
     omega (arith, below, inside)
 
 take-record-requires : tie.Need-take-record-requires
@@ -43,7 +45,8 @@ take-record-requires c κs =
     let swept : tie.After-sweep-staying = c .before .before .before in
     let read = read-of (tested-of swept) in
     let start = start-of read in
-    let inside = records-inside _ _ (start .pre .0 .0) _ (start .pre .1) _ (start .pre .0 .1) _ (read .records-at .ensures) in
+    let inside = records-inside _ _ (start .pre .0 .0) _ (start .pre .1) _ (start .pre .0 .1) _
+    (read .records-at .ensures) in
     omega (arith, inside, swept .sweep-staying .kept .0)
 
 sub-went : tie.Need-sub-went
