@@ -162,7 +162,8 @@ module _ (entries : ℕ) where
             ≡ packedBytes 0 (entriesFrom w₀ entriesAt entries) b₀
         unfolding packedBytes
         moved-with =
-            let s : r .from + (r .len + e .len) ≤ length b′ = omega (arith, up .reaches, up .length-same, body-within) in
+            let s : r .from + (r .len + e .len) ≤ length b′ =
+            omega (arith, up .reaches, up .length-same, body-within) in
             rw (sym (moved-on (r .from) (r .to) (r .len) (e .len) b′ (up .down) s), up .reaches, up .bytes, up .behind)
             (rw first at (inv .rest-bytes))
 
