@@ -7,6 +7,7 @@ use super::counts::{Counts, Table as CountTable};
 use super::layout::{self, Entry, Table};
 use super::lent::{Blocks, Lent, Tail};
 use super::limits::{Areas, Limits};
+use super::moved::Moved;
 use super::original::{HeldBody, State};
 use super::parts::{Part, Taker};
 use super::run::Run;
@@ -21,18 +22,26 @@ pub const DEFAULTS: (u64, u64) = (1, 200_000);
 /// Seed and number of calls in each list at the default limits.
 pub const DEFAULT_LIMITS_DEFAULTS: (u64, u64) = (1, 20_000);
 
+/// Seed and number of lists on areas of up to 4 MiB in which bodies move often.
+pub const MOVES_DEFAULTS: (u64, u64) = (1, 600);
+
 pub fn run(seed: u64, lists: u64) -> Result<ExitCode, String> {
     let parts = [
         Part::Exhaustive,
         Part::Small { seed, lists },
         Part::Middle { seed },
         Part::Defaults { seed, calls: DEFAULT_LIMITS_DEFAULTS.1 },
+        Part::Moves { seed, lists: MOVES_DEFAULTS.1 },
     ];
     run_on(Blocks::Guarded, &parts)
 }
 
 pub fn run_default_limits(seed: u64, calls: u64) -> Result<ExitCode, String> {
     run_on(Blocks::Guarded, &[Part::Defaults { seed, calls }])
+}
+
+pub fn run_moves(seed: u64, lists: u64) -> Result<ExitCode, String> {
+    run_on(Blocks::Guarded, &[Part::Moves { seed, lists }])
 }
 
 pub fn run_on(blocks: Blocks, parts: &[Part]) -> Result<ExitCode, String> {
@@ -54,6 +63,7 @@ pub fn run_on(blocks: Blocks, parts: &[Part]) -> Result<ExitCode, String> {
             }
         }
         comparison.print_times();
+        print!("{}", std::mem::take(&mut comparison.moved));
         counts.push((part.name(), std::mem::take(&mut comparison.counts)));
     }
     let table = CountTable(&counts);
@@ -62,17 +72,25 @@ pub fn run_on(blocks: Blocks, parts: &[Part]) -> Result<ExitCode, String> {
     Ok(ExitCode::SUCCESS)
 }
 
-/// The list without every call that can be left out with a difference still there.
+/// The list without calls that can be left out with a difference still there: many at once, then
+/// fewer, then one by one, as far as the time goes. A list on long areas takes seconds each time.
 fn smallest(calls: &[Call]) -> Vec<Call> {
+    const LONGEST: Duration = Duration::from_secs(60);
+    let started = Instant::now();
     let differs = |calls: &[Call]| Comparison::default().add_all(calls).is_err();
     let mut calls = calls.to_vec();
-    let mut at = calls.len();
-    while at > 1 {
-        at -= 1;
-        let mut fewer = calls.clone();
-        fewer.remove(at);
-        if differs(&fewer) {
-            calls = fewer;
+    let mut step = calls.len();
+    while step > 1 {
+        step = step.div_ceil(2);
+        let mut at = calls.len();
+        while at > 1 && started.elapsed() < LONGEST {
+            let end = at;
+            at = at.saturating_sub(step).max(1);
+            let mut fewer = calls.clone();
+            fewer.drain(at..end);
+            if differs(&fewer) {
+                calls = fewer;
+            }
         }
     }
     calls
@@ -88,6 +106,7 @@ struct Comparison {
     counts: Counts,
     /// Time within the port, calls, and the longest time, by call.
     times: [(Duration, u32, Duration); 8],
+    moved: Moved,
     tail: Tail,
     before: Lent,
 }
@@ -125,6 +144,7 @@ impl Comparison {
             unreachable!("only openings come here");
         };
         self.lent = Lent::new(areas, self.blocks);
+        self.moved.open();
         // No byte is written.
         let from = Areas { bytes: 0, ..need(&limits) };
         self.compare(call, &[], from, areas, Answer::number(DONE), false)
@@ -200,6 +220,7 @@ impl Comparison {
         {
             return Err(format!("expected {state:?} with {limits:?}, the port holds {table:?}"));
         }
+        self.moved.add(&table, &state, self.lent.bytes().len());
         let areas = self.lent.areas();
         let told = self.lent.figures(areas);
         if told != Ok(figures(&state)) {

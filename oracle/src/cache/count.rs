@@ -11,12 +11,15 @@ pub const DEFAULTS: (u64, u64) = (1, 200_000);
 
 const DEFAULT_LIMITS_CALLS: u64 = 20_000;
 
+const MOVES_LISTS: u64 = 600;
+
 pub fn run(seed: u64, lists: u64) -> Result<ExitCode, String> {
     let parts = [
         Part::Exhaustive,
         Part::Small { seed, lists },
         Part::Middle { seed },
         Part::Defaults { seed, calls: DEFAULT_LIMITS_CALLS },
+        Part::Moves { seed, lists: MOVES_LISTS },
     ];
     let counts = Part::write_all(&parts, io::sink()).map_err(|error| error.to_string())?;
     let table = Table(&counts);

@@ -21,6 +21,8 @@ mod lent;
 pub mod limits;
 #[cfg(feature = "live")]
 pub mod memory;
+#[cfg(feature = "live")]
+mod moved;
 mod original;
 pub mod parts;
 pub mod pendlist;

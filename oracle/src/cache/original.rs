@@ -11,6 +11,7 @@ use crate::variable_versions::metrics::CacheMetricsInner;
 use crate::variable_versions::pending_flows::{
     PendingFlowCache, PendingFlowEntry, PendingFlowsConfig,
 };
+use std::fmt;
 use std::time::Duration;
 
 /// The original asks its caller to put back only what the drain just before handed out.
@@ -33,11 +34,19 @@ struct Chance {
 }
 
 /// A body with the number of its offer and the clock reading of its offer.
-#[derive(Debug, Clone, Copy, PartialEq, Eq)]
+#[derive(Clone, Copy, PartialEq, Eq)]
 pub struct HeldBody<'a> {
     pub offer: u64,
     pub bytes: &'a [u8],
     pub clock: u64,
+}
+
+/// Shows no bytes: they are known by the offer, and a cache holds up to 64 MiB.
+impl fmt::Debug for HeldBody<'_> {
+    fn fmt(&self, to: &mut fmt::Formatter<'_>) -> fmt::Result {
+        let Self { offer, bytes, clock } = self;
+        write!(to, "offer {offer} ({} bytes, clock {clock})", bytes.len())
+    }
 }
 
 /// A template with its bodies, oldest first.

@@ -5,6 +5,7 @@ use super::call::Call;
 use super::counts::Counts;
 use super::exhaustive;
 use super::generator::Generator;
+use super::generator::moves::{LARGE_MOVES, MOVES, SHORT_MOVES};
 use super::generator::profile::{DEFAULTS_BY_BYTES, DEFAULTS_BY_COUNT, MIDDLE, Profile, SMALL};
 use super::limits::Limits;
 use super::rows::Rows;
@@ -15,6 +16,9 @@ const SMALL_LIST: u64 = 60;
 
 const MIDDLE_LISTS: u64 = 20;
 const MIDDLE_LIST: u64 = 5_000;
+
+const MOVES_LIST: u64 = 800;
+const SHORT_MOVES_LIST: u64 = 150;
 
 /// Takes one call after the other. A list begins with an opening that is accepted.
 pub trait Taker {
@@ -40,6 +44,11 @@ pub enum Part {
     Middle { seed: u64 },
     /// Two long lists by chance at the default limits: one with many bodies, one with large ones.
     Defaults { seed: u64, calls: u64 },
+    /// Lists by chance in which bodies move often, on areas of 100 bytes to 4 MiB; and three
+    /// long lists on areas of up to 64 MiB.
+    Moves { seed: u64, lists: u64 },
+    /// The same on short areas, for a memory checker.
+    ShortMoves { seed: u64, lists: u64 },
 }
 
 impl Part {
@@ -61,6 +70,7 @@ impl Part {
             Self::Small { .. } => "small",
             Self::Middle { .. } => "middle",
             Self::Defaults { .. } => "defaults",
+            Self::Moves { .. } | Self::ShortMoves { .. } => "moves",
         }
     }
 
@@ -82,6 +92,17 @@ impl Part {
                     taker.add_all(&shrinking())?;
                 }
                 Ok(())
+            }
+            Self::Moves { seed, lists } => {
+                let mut generator = Generator::new(seed, &MOVES);
+                (0..lists).try_for_each(|_| make_calls(taker, &mut generator, MOVES_LIST))?;
+                LARGE_MOVES.iter().try_for_each(|(profile, calls)| {
+                    make_calls(taker, &mut Generator::new(seed, profile), *calls)
+                })
+            }
+            Self::ShortMoves { seed, lists } => {
+                let mut generator = Generator::new(seed, &SHORT_MOVES);
+                (0..lists).try_for_each(|_| make_calls(taker, &mut generator, SHORT_MOVES_LIST))
             }
         }
     }

@@ -7,6 +7,9 @@ use crate::cache::limits::Limits;
 
 const FIRST_ID: u16 = 300;
 
+/// How often a length is an exact one, where the profile has such.
+const EXACT_PERCENT: u64 = 30;
+
 impl Generator {
     /// Mostly one that is held.
     pub(super) fn id(&mut self, account: &Account) -> u16 {
@@ -32,6 +35,10 @@ impl Generator {
 
     pub(super) fn length(&mut self, account: &Account) -> u64 {
         let Limits { entry, total, .. } = account.limits;
+        let exact = self.profile.exact_lengths;
+        if !exact.is_empty() && self.random.percent(EXACT_PERCENT) {
+            return self.random.pick(exact).min(entry);
+        }
         if !self.random.percent(self.profile.special_percent) {
             let bound = self.random.pick(self.profile.lengths).min(entry);
             return self.random.below(bound + 1);
@@ -106,6 +113,19 @@ impl Generator {
             limits.ttl = any_ttl(&mut self.random);
         }
         limits
+    }
+
+    /// The opening's limits with a total a little above or below what is held.
+    pub(super) fn tight(&mut self, account: &Account) -> Limits {
+        let held = account.bytes();
+        let total = match self.random.below(4) {
+            0 => held,
+            1 => held + self.random.below(600),
+            2 => held + self.random.below(self.opened.total / 4 + 1),
+            _ => held - self.random.below(held / 4 + 1),
+        };
+        let total = total.clamp(1, self.opened.total);
+        Limits { total, entry: self.opened.entry.min(total), ..self.opened }
     }
 
     /// Limits of which some are out of range.

@@ -1,6 +1,7 @@
 //! Calls by chance, drawn with a view to what is held.
 
 mod figures;
+pub mod moves;
 pub mod profile;
 
 use super::account::{Account, limits_number};
@@ -122,7 +123,10 @@ impl Generator {
         Call::PutBack { id, n }
     }
 
-    fn resize(&mut self, _: &Account) -> Call {
+    fn resize(&mut self, account: &Account) -> Call {
+        if self.profile.tight_resizes && self.random.percent(60) {
+            return Call::Resize(self.tight(account));
+        }
         Call::Resize(if self.random.percent(25) { self.spoiled() } else { self.varied() })
     }
 

@@ -25,6 +25,8 @@ pub struct Profile {
     pub areas: fn(&mut Random, &Limits) -> Areas,
     /// Whether a resize may bring limits that are far from the opening's, and another TTL.
     pub wide_resizes: bool,
+    /// Whether most resizes bring a total near what is held, so that what stays is packed.
+    pub tight_resizes: bool,
     /// The first calls of a list are offers, up to so many.
     pub first_offers: u64,
     /// Ids from 300 on, the first of them more often.
@@ -32,6 +34,8 @@ pub struct Profile {
     pub hot_percent: u64,
     /// How often a length is one at which an answer changes. The others are drawn below these.
     pub special_percent: u64,
+    /// Lengths that come up as they are, where the entry size lets them.
+    pub exact_lengths: &'static [u64],
     pub lengths: &'static [u64],
 }
 
@@ -50,10 +54,12 @@ pub const SMALL: Profile = Profile {
     limits: small_limits,
     areas: small_areas,
     wide_resizes: true,
+    tight_resizes: false,
     first_offers: 8,
     ids: 4,
     hot_percent: 30,
     special_percent: 50,
+    exact_lengths: &[],
     lengths: &[1, 2, 4, 12],
 };
 
@@ -73,10 +79,12 @@ pub const MIDDLE: Profile = Profile {
     limits: middle_limits,
     areas: |_, _| REPLAYED,
     wide_resizes: true,
+    tight_resizes: false,
     first_offers: 300,
     ids: 24,
     hot_percent: 25,
     special_percent: 2,
+    exact_lengths: &[],
     lengths: &[16, 64, 64, 200, 1_024],
 };
 
@@ -95,10 +103,12 @@ pub const DEFAULTS_BY_COUNT: Profile = Profile {
     limits: |_| Limits::DEFAULTS,
     areas: |_, limits| limits.areas().expect("the default limits are legal"),
     wide_resizes: false,
+    tight_resizes: false,
     first_offers: 8_000,
     ids: 320,
     hot_percent: 40,
     special_percent: 0,
+    exact_lengths: &[],
     lengths: &[0, 16, 100, 1_500],
 };
 
