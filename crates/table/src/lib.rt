@@ -57,3 +57,6 @@ pub struct LiveFigures {
 
 // Every label is below this.
 pub const LABELS: usize = 1024;
+
+// Where there are fewer templates than this, new ones have labels below it, so that a test clears less than for all.
+pub const FEW_LABELS: usize = 32;

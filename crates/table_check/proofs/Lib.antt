@@ -1,4 +1,5 @@
 pub mod Header
+pub mod Room
 pub mod Counted
 pub mod Passes
 pub mod WordsPasses

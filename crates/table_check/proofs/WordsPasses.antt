@@ -14,6 +14,7 @@ use Rattle.table.specs.Table.{tableOf, index, records, entriesFrom, recordsFrom
 use Rattle.table.specs.WellFormed.{indexRises, tableLegal}
 use Rattle.table.specs.Passes.{firstLabel}
 use Rattle.table_check.specs.Header.{HeaderLegal}
+use Rattle.table_check.specs.Room.{RoomFor}
 use Rattle.table_passes.specs.Passes.{recordsPass, allowedBy, Allowed, KeysSmall}
 use Rattle.table_entry_test.specs.EntriesPass.{entriesPass}
 use Rattle.table_watch.specs.declared.Sought.{Sought}
@@ -22,7 +23,7 @@ use Rattle.table_watch.specs.declared.Watch.{Watch}
 use Rattle.table_watch.specs.Watch.{watchFor, watchIn, seenBy, judged}
 use Rattle.table.proofs.Words.{length-entries, length-records, length-index, first-records, records-behind}
 use Rattle.table_check.proofs.Counted.{first-says}
-use Rattle.table_check.proofs.Passes.{noAllowance, passes, passes-legal}
+use Rattle.table_check.proofs.Passes.{passes, passes-legal}
 
 -- the records that passed have small keys
 small-keys : (w : List ℕ) (cap many p k : ℕ) (allow : List ℕ) (sum : ℕ) →
@@ -40,8 +41,8 @@ pub keys-small : (w : List ℕ) (p k : ℕ) {cap many : ℕ} {allow allow′ : L
     Allowed cap many (recordsFrom w p k) allow allow′ t → t ≡ true → KeysSmall w p k
 keys-small w p k passed right = small-keys w _ _ p k _ 0 (sym (passed .test) ∙ right)
 
-module _ (l : PendingFlowsConfig) (w : List ℕ) (header : HeaderLegal l w) (from : ℕ) (there : from
-    ≡ recordsAt l) where
+module _ (l : PendingFlowsConfig) (w allow₀ : List ℕ) (header : HeaderLegal l w) (room : RoomFor w allow₀) (from : ℕ)
+    (there : from ≡ recordsAt l) where
   abbrev cap : ℕ
   cap = l .«max_entries_per_template»
 
@@ -60,9 +61,9 @@ module _ (l : PendingFlowsConfig) (w : List ℕ) (header : HeaderLegal l w) (fro
       entriesPass (l .«max_entry_size_bytes») (l .«max_total_bytes») out (totalWord w) 0 allow 0
       (entriesFrom w entriesAt (entryCount w))
 
-  words-passes : passes (tableOf w) (index w)
-      ≡ (recordsPass cap (entryCount w) noAllowance 0 all && (indexRises all 0 positions && entries-test
-      (allowedBy noAllowance all) (firstLabel handed)))
+  words-passes : passes (length allow₀) (tableOf w) (index w)
+      ≡ (recordsPass cap (entryCount w) allow₀ 0 all && (indexRises all 0 positions && entries-test
+      (allowedBy allow₀ all) (firstLabel handed)))
   unfolding passes
   words-passes =
       rw (
@@ -71,23 +72,25 @@ module _ (l : PendingFlowsConfig) (w : List ℕ) (header : HeaderLegal l w) (fro
         take-append-drop (heldCount w) (records w),
         length-entries w entriesAt (entryCount w),
         records-behind w (recordsAt (limitsOf w)) (heldCount w) (chanceCount w),
+        ← room .cleared,
       )
 
-  words-legal : passes (tableOf w) (index w) ≡ tableLegal (tableOf w) (index w)
+  words-legal : passes (length allow₀) (tableOf w) (index w) ≡ tableLegal (tableOf w) (index w)
   words-legal =
       let many = length-records w (recordsAt (limitsOf w)) (heldCount w + chanceCount w) in
-      passes-legal (tableOf w) (index w)
+      passes-legal (length allow₀) (tableOf w) (index w)
       (omega (arith, header .chance-single, length-drop (heldCount w) (records w), many))
+      (room .few) (rw (header .limits-read) at (header .total-small)) (rw (take-append-drop (heldCount w) (records w)) (room .enough))
       (length-index w (recordsAt (limitsOf w)) (heldCount w + chanceCount w)
       ∙ sym (ap length (take-append-drop (heldCount w) (records w)) ∙ many))
 
-  module _ (allow : List ℕ) (t : Bool) (passed : Allowed cap (entryCount w) all noAllowance allow t) where
+  module _ (allow : List ℕ) (t : Bool) (passed : Allowed cap (entryCount w) all allow₀ allow t) where
     pub records-wrong : t ≡ false → false ≡ tableLegal (tableOf w) (index w)
     records-wrong e = and-fails _ _ (sym (passed .test) ∙ e) ∙ sym words-passes ∙ words-legal
 
     module _ (right : t ≡ true) (u : Bool) (told : u ≡ indexRises all 0 positions) where
       -- the records passed, and leave it to the other passes
-      left-to : (r : Bool) → r ≡ (indexRises all 0 positions && entries-test (allowedBy noAllowance all)
+      left-to : (r : Bool) → r ≡ (indexRises all 0 positions && entries-test (allowedBy allow₀ all)
           (firstLabel handed)) → r ≡ tableLegal (tableOf w) (index w)
       left-to r e = and-holds r _ _ (sym (passed .test) ∙ right) e ∙ sym words-passes ∙ words-legal
 

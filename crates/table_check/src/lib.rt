@@ -1,16 +1,16 @@
 // The test behind number 28: whether the words, beside so many bytes, hold a well-formed table. It is linear: one pass
-// over the records, one along the index, one over the entries. The last also watches the entries that a query is about.
+// over the records (where they are few one over their labels before it), one along the index, one over the entries. The
+// last also watches the entries that a query is about.
 ghost use mathlib.Core.Path.{_≡_};
 ghost use mathlib.Core.Bool.{_&&_};
 ghost use Prim.Native.Nat.{_<_, _≤_};
 ghost use lib.ListN.{length};
 ghost use Rattle.config.specs.Limits.{headerWords, maxBodies};
 ghost use Rattle.table.specs.Layout.{limitsOf};
-ghost use Rattle.table.specs.Table.{index, tableOf};
-ghost use Rattle.table.specs.WellFormed.{flagsLegal, countsLegal, tableLegal, wellFormed};
-ghost use Rattle.table_watch.specs.Watch.{watchIn, seenBy, judged};
+ghost use Rattle.table.specs.WellFormed.{flagsLegal, countsLegal, wellFormed};
 ghost use Rattle.table_check.specs.Header.{HeaderLegal};
-ghost use Rattle.table_check.specs.Examined.{examined};
+ghost use Rattle.table_check.specs.Room.{RoomFor};
+ghost use Rattle.table_check.specs.Examined.{tableExamined, examined};
 use config::ConfigAnswer;
 use config::HEADER_WORDS;
 use config::PendingFlowsConfig;
@@ -18,6 +18,7 @@ use config::RECORD_WORDS;
 use config::validate_config;
 use table::CHANCE_COUNT;
 use table::ENTRY_COUNT;
+use table::FEW_LABELS;
 use table::HELD_COUNT;
 use table::LABELS;
 use table::TOTAL;
@@ -27,17 +28,22 @@ use table::limits_at;
 use table::records_at;
 use table_entry_test::entries_pass;
 use table_passes::index_rises;
+use table_passes::labels_below;
 use table_passes::records_pass;
 use table_watch::Sought;
 use table_watch::TableSeen;
 use table_watch::watch_for;
 
-// Tests the records, the index and the entries by the three passes, and looks for what is sought.
-fn examine_table(words: &[u64], limits: PendingFlowsConfig, sought: Sought) -> TableSeen
-    requires { ⌜ HeaderLegal limits (now words) ⌝ }
-    ensures { λ r.
-        ⌜ r ≡ judged (tableLegal (tableOf (now (words .entry))) (index (now (words .entry))))
-        (seenBy (watchIn (tableOf (now (words .entry))) sought) (tableOf (now (words .entry)) .entries)) ⌝ }
+// Tests the records, the index and the entries by the three passes, and looks for what is sought. What the labels are
+// allowed stands in `allow`.
+fn test_table(
+    words: &[u64],
+    allow: &mut [u32],
+    limits: PendingFlowsConfig,
+    sought: Sought,
+) -> TableSeen
+    requires { ⌜ HeaderLegal limits (now words) × RoomFor (now words) (now allow) ⌝ }
+    ensures { λ r. ⌜ r ≡ tableExamined (now (words .entry)) sought ⌝ }
 {
     let from = records_at(limits);
     let held = words[HELD_COUNT] as usize;
@@ -45,8 +51,7 @@ fn examine_table(words: &[u64], limits: PendingFlowsConfig, sought: Sought) -> T
     let records = held + chance;
     let entries = words[ENTRY_COUNT];
     let cap = limits.max_entries_per_template as u64;
-    let mut allow = [0u32; LABELS];
-    if !records_pass(words, &mut allow, from, records, cap, entries) {
+    if !records_pass(words, allow, from, records, cap, entries) {
         return TableSeen::Damaged;
     }
     if !index_rises(words, from, records) {
@@ -59,7 +64,7 @@ fn examine_table(words: &[u64], limits: PendingFlowsConfig, sought: Sought) -> T
     let watch = watch_for(words, from, held, ttl, out, sought);
     entries_pass(
         words,
-        &mut allow,
+        allow,
         entries as usize,
         max_size,
         max_total,
@@ -67,6 +72,22 @@ fn examine_table(words: &[u64], limits: PendingFlowsConfig, sought: Sought) -> T
         words[TOTAL],
         watch,
     )
+}
+
+// Tests a table whose header is legal, and looks for what is sought.
+fn examine_table(words: &[u64], limits: PendingFlowsConfig, sought: Sought) -> TableSeen
+    requires { ⌜ HeaderLegal limits (now words) ⌝ }
+    ensures { λ r. ⌜ r ≡ tableExamined (now (words .entry)) sought ⌝ }
+{
+    let records = (words[HELD_COUNT] as usize) + (words[CHANCE_COUNT] as usize);
+    if records <= FEW_LABELS {
+        if labels_below(words, records_at(limits), records, FEW_LABELS as u64) {
+            let mut few = [0u32; FEW_LABELS];
+            return test_table(words, &mut few, limits, sought);
+        }
+    }
+    let mut allow = [0u32; LABELS];
+    test_table(words, &mut allow, limits, sought)
 }
 
 // Whether the flags are flags, and the words have no more templates and entries than the limits.

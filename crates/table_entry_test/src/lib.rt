@@ -10,8 +10,8 @@ ghost use Rattle.table_watch.specs.Watch.{seenBy, judged};
 ghost use Rattle.table_entry_test.specs.EntriesPass.{entryFits, entriesPass};
 use config::ENTRY_WORDS;
 use config::HEADER_WORDS;
+use config::MAX_BYTES;
 use table::Entry;
-use table::LABELS;
 use table::entry_at;
 use table_watch::Passed;
 use table_watch::TableSeen;
@@ -19,10 +19,10 @@ use table_watch::Watch;
 use table_watch::label_seen;
 use table_watch::pass_entry;
 
-// Whether a body is within the entry size, begins at `end` or above, and ends within the total.
-fn entry_fits(entry: Entry, max_size: u64, max_total: u64, end: u64) -> bool
-    requires { ⌜ («max_size» ≤ «max_total») × («max_total» ≤ 67108864) ⌝ }
-    ensures { λ r. ⌜ r ≡ entryFits «max_size» «max_total» end entry ⌝ }
+// Whether a body is within the entry size, and begins at `end` or above, within the longest area. Bodies follow one
+// another, so where they end is tested of the last one alone.
+fn entry_fits(entry: Entry, max_size: u64, end: u64) -> bool
+    ensures { λ r. ⌜ r ≡ entryFits «max_size» end entry ⌝ }
 {
     if max_size < entry.len {
         return false;
@@ -30,10 +30,7 @@ fn entry_fits(entry: Entry, max_size: u64, max_total: u64, end: u64) -> bool
     if entry.place < end {
         return false;
     }
-    if max_total < entry.place {
-        return false;
-    }
-    entry.place + entry.len <= max_total
+    entry.place <= (MAX_BYTES as u64)
 }
 
 // What an entry adds to the total: nothing where it is handed out.
@@ -47,7 +44,7 @@ fn held_len(entry: Entry, out: u64) -> u64
 // seen on the way.
 pub fn entries_pass(
     words: &[u64],
-    allow: &mut [u32; LABELS],
+    allow: &mut [u32],
     entries: usize,
     max_size: u64,
     max_total: u64,
@@ -56,7 +53,7 @@ pub fn entries_pass(
     watch: Watch,
 ) -> TableSeen
     requires { ⌜ entriesAt + entryWords * entries ≤ length (now words) ⌝ }
-    requires { ⌜ («max_size» ≤ «max_total») × («max_total» ≤ 67108864) ⌝ }
+    requires { ⌜ «max_size» ≤ 67108864 ⌝ }
     ensures { λ r.
         ⌜ r ≡ judged (entriesPass «max_size» «max_total» out total 0 (now (allow .entry)) 0
         (entriesFrom (now (words .entry)) entriesAt entries))
@@ -69,7 +66,7 @@ pub fn entries_pass(
     let mut p = HEADER_WORDS;
     while entries_left > 0 {
         let entry = entry_at(words, p);
-        if (LABELS as u64) <= entry.label {
+        if (allow.len() as u64) <= entry.label {
             return TableSeen::Damaged;
         }
         let label = entry.label as usize;
@@ -77,7 +74,7 @@ pub fn entries_pass(
         if allowed == 0 {
             return TableSeen::Damaged;
         }
-        if !entry_fits(entry, max_size, max_total, end) {
+        if !entry_fits(entry, max_size, end) {
             return TableSeen::Damaged;
         }
         allow[label] = allowed - 1;
@@ -86,6 +83,9 @@ pub fn entries_pass(
         passed = pass_entry(words, p, entry, entries_left, passed, watch);
         entries_left -= 1;
         p += ENTRY_WORDS;
+    }
+    if max_total < end {
+        return TableSeen::Damaged;
     }
     if held != total {
         return TableSeen::Damaged;

@@ -1,2 +1,3 @@
+pub mod LabelsPass
 pub mod RecordsPass
 pub mod IndexPass

@@ -5,7 +5,7 @@ use mathlib.Core.List.{List}
 use Prim.Native.Nat.{ℕ, _+_, _*_, _-_, _^_, _≤_, _<_}
 use native.Mathlib.Omega.{arith}
 use lib.Dec.{eqb, leb, ltb}
-use lib.ListN.{getD, set}
+use lib.ListN.{length, getD, set, length-set}
 use borrow.Author.Tests.{leb-true, ltb-true, eqb-true, lt-ltb, le-ltb, eq-eqb, ne-eqb}
 use Rattle.config.specs.Limits.{recordWords}
 use Rattle.config.proofs.Tests.{and-left, and-right}
@@ -56,6 +56,7 @@ fresh-says cap was r e =
 pub record RecordsPassed (w : List ℕ) (from records cap entries : ℕ) (allow₀ allow : List ℕ) (sum left p : ℕ) : Type 0
   where
     pub reached : p + recordWords * left ≡ from + recordWords * records
+    pub same-long : length allow ≡ length allow₀
     pub sum-small : sum + 262144 * left ≤ 262144 * records
     pub test : recordsPass cap entries allow sum (recordsFrom w p left)
         ≡ recordsPass cap entries allow₀ 0 (recordsFrom w from records)
@@ -63,7 +64,13 @@ pub record RecordsPassed (w : List ℕ) (from records cap entries : ℕ) (allow�
 
 module _ (w : List ℕ) (from records cap entries : ℕ) where
   pub no-record-passed : (allow : List ℕ) → RecordsPassed w from records cap entries allow allow 0 records from
-  no-record-passed allow = record { reached = refl; sum-small = omega arith; test = refl; filled = refl }
+  no-record-passed allow = record {
+    reached = refl;
+    same-long = refl;
+    sum-small = omega arith;
+    test = refl;
+    filled = refl;
+  }
 
   -- the allowances matter only where the test holds
   record-fails : (allow₀ allow′ : List ℕ) → false ≡ recordsPass cap entries allow₀ 0 (recordsFrom w from records) →
@@ -79,22 +86,22 @@ module _ (w : List ℕ) (from records cap entries : ℕ) where
         record { test = rw none at (inv .test); filled = λ _. rw none at (inv .filled) }
 
     module _ (r : TemplateRecord) (more : 0 < left) (is : r ≡ recordAt w p) where
-      next-test : ltb (r .label) 1024 && (recordFresh cap (getD allow (r .label) 0) r && recordsPass cap entries
+      next-test : ltb (r .label) (length allow) && (recordFresh cap (getD allow (r .label) 0) r && recordsPass cap entries
           (set allow (r .label) (r .count)) (sum + r .count) (recordsFrom w (p + recordWords) (left - 1)))
           ≡ recordsPass cap entries allow₀ 0 (recordsFrom w from records)
       unfolding recordsPass
       next-test = rw (records-first w p left more r is) at (inv .test)
 
-      pub large-label : (allow′ : List ℕ) → 1024 ≤ r .label →
+      pub large-label : (allow′ : List ℕ) → length allow ≤ r .label →
           Allowed cap entries (recordsFrom w from records) allow₀ allow′ false
-      large-label allow′ h = record-fails allow₀ allow′ (rw (le-ltb (r .label) 1024 h) at next-test)
+      large-label allow′ h = record-fails allow₀ allow′ (rw (le-ltb (r .label) (length allow) h) at next-test)
 
-      module _ (small-label : r .label < 1024) (t : Bool)
+      module _ (small-label : r .label < length allow) (t : Bool)
           (told : t ≡ recordFresh cap (getD allow (r .label) 0) r) where
         pub not-fresh : (allow′ : List ℕ) → t ≡ false →
             Allowed cap entries (recordsFrom w from records) allow₀ allow′ false
         not-fresh allow′ e =
-            record-fails allow₀ allow′ (rw (lt-ltb (r .label) 1024 small-label, ← told, e) at next-test)
+            record-fails allow₀ allow′ (rw (lt-ltb (r .label) (length allow) small-label, ← told, e) at next-test)
 
         module _ (holds : t ≡ true) (few : cap ≤ 262144) where
           fresh : Fresh cap (getD allow (r .label) 0) r
@@ -105,8 +112,9 @@ module _ (w : List ℕ) (from records cap entries : ℕ) where
           unfolding allowedBy
           record-passed = let f = fresh in record {
             reached = omega arith;
+            same-long = length-set allow (r .label) (r .count) ∙ inv .same-long;
             sum-small = omega arith;
-            test = rw (lt-ltb (r .label) 1024 small-label, ← told, holds) at next-test;
+            test = rw (lt-ltb (r .label) (length allow) small-label, ← told, holds) at next-test;
             filled = rw (records-first w p left more r is) at (inv .filled);
           }
 

@@ -6,10 +6,15 @@ use mathlib.Core.List.{List, [], _∷_}
 use mathlib.Core.Bool.{Bool, true, _&&_}
 use Prim.Native.Nat.{ℕ, _+_, _*_, _<_}
 use lib.Dec.{eqb, leb, ltb}
-use lib.ListN.{getD, set}
+use lib.ListN.{length, getD, set}
 use Rattle.config.specs.Limits.{recordWords}
 use Rattle.table.specs.declared.TemplateRecord.{TemplateRecord}
 use Rattle.table.specs.Layout.{word}
+use Rattle.table.specs.WellFormed.{every}
+
+-- the labels of all records are below this
+abbrev pub labelsBelow : ℕ → List TemplateRecord → Bool
+labelsBelow most rs = every (λ r. ltb (r .label) most) rs
 
 -- a record by itself, where its label was allowed `was` entries before
 unfoldable pub recordFresh : ℕ → ℕ → TemplateRecord → Bool
@@ -19,7 +24,7 @@ recordFresh cap was r = ltb (r .key) 65536 && (eqb was 0 && (ltb 0 (r .count) &&
 unfoldable pub recordsPass : ℕ → ℕ → List ℕ → ℕ → List TemplateRecord → Bool
 recordsPass cap many allow sum [] = eqb sum many
 recordsPass cap many allow sum (r ∷ rs) =
-    ltb (r .label) 1024 && (recordFresh cap (getD allow (r .label) 0) r && recordsPass cap many
+    ltb (r .label) (length allow) && (recordFresh cap (getD allow (r .label) 0) r && recordsPass cap many
     (set allow (r .label) (r .count)) (sum + r .count) rs)
 
 -- how many entries each label is allowed after the records, where it was allowed so many before

@@ -5,15 +5,32 @@ ghost use lib.ListN.{length};
 ghost use Rattle.config.specs.Limits.{recordWords};
 ghost use Rattle.table.specs.Table.{recordsFrom, indexFrom};
 ghost use Rattle.table.specs.WellFormed.{indexRises};
-ghost use Rattle.table_passes.specs.Passes.{recordFresh, Allowed, KeysSmall};
+ghost use Rattle.table_passes.specs.Passes.{labelsBelow, recordFresh, Allowed, KeysSmall};
 use config::RECORD_WORDS;
 use table::INDEX;
-use table::LABELS;
 use table::TemplateRecord;
 use table::record_at;
 
 // Every key is below this: a 16-bit id.
 const KEYS: u64 = 65536;
+
+// Whether the labels of all records are below this.
+pub fn labels_below(words: &[u64], from: usize, records: usize, most: u64) -> bool
+    requires { ⌜ from + recordWords * records ≤ length (now words) ⌝ }
+    ensures { λ r. ⌜ r ≡ labelsBelow most (recordsFrom (now (words .entry)) from records) ⌝ }
+{
+    let mut records_left = records;
+    let mut p = from;
+    while records_left > 0 {
+        let template = record_at(words, p);
+        if most <= template.label {
+            return false;
+        }
+        records_left -= 1;
+        p += RECORD_WORDS;
+    }
+    true
+}
 
 // Whether a record's key and count are in range and its label, which was allowed `was` entries before, is new.
 fn record_fresh(template: TemplateRecord, was: u32, cap: u64) -> bool
@@ -34,7 +51,7 @@ fn record_fresh(template: TemplateRecord, was: u32, cap: u64) -> bool
 // The pass over the records: each label is allowed as many entries as its record counts.
 pub fn records_pass(
     words: &[u64],
-    allow: &mut [u32; LABELS],
+    allow: &mut [u32],
     from: usize,
     records: usize,
     cap: u64,
@@ -50,7 +67,7 @@ pub fn records_pass(
     let mut p = from;
     while records_left > 0 {
         let template = record_at(words, p);
-        if (LABELS as u64) <= template.label {
+        if (allow.len() as u64) <= template.label {
             return false;
         }
         let label = template.label as usize;

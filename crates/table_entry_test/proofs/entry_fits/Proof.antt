@@ -1,5 +1,5 @@
 use borrow.Author.Needs.{needs}
-use Rattle.table_entry_test.proofs.EntriesPass.{too-long, overlaps, begins-past, end-decides}
+use Rattle.table_entry_test.proofs.EntriesPass.{too-long, overlaps, place-decides}
 use Rattle.table_entry_test.proofs.entry_fits.Statement.{statement}
 use Rattle.table_entry_test.proofs.entry_fits.Tie as tie
 
@@ -10,13 +10,7 @@ returns-2 : tie.Need-returns-2
 returns-2 c = search (overlaps, needs)
 
 returns-3 : tie.Need-returns-3
-returns-3 c = search (begins-past, needs)
-
-add-result : tie.Need-add-result
-add-result c = search needs
-
-returns-4 : tie.Need-returns-4
-returns-4 c = search (end-decides, needs)
+returns-3 c = search (place-decides, needs)
 
 pub entry-fits-spec : {M : Type 1} → statement M
-entry-fits-spec = tie.close (tie.spec returns returns-2 returns-3 add-result returns-4)
+entry-fits-spec = tie.close (tie.spec returns returns-2 returns-3)

@@ -19,17 +19,23 @@ loop-holds c = no-record-passed _ _ _ _ _ _
 record-at-requires : tie.Need-record-at-requires Inv-loop μ-loop
 record-at-requires c κs = search needs
 
+same-length : tie.Need-same-length Inv-loop μ-loop
+same-length c = search needs
+
 returns : tie.Need-returns Inv-loop μ-loop
 returns c = search (large-label, needs)
 
 mul-record-fresh : tie.Need-mul-record-fresh Inv-loop μ-loop
 mul-record-fresh c = search needs
 
-element-copy-out-record-fresh : tie.Need-element-copy-out-record-fresh Inv-loop μ-loop
-element-copy-out-record-fresh c = search needs
+slice-read-record-fresh : tie.Need-slice-read-record-fresh Inv-loop μ-loop
+slice-read-record-fresh c = search needs
 
 record-fresh-requires : tie.Need-record-fresh-requires Inv-loop μ-loop
 record-fresh-requires c κs = search needs
+
+same-length-2 : tie.Need-same-length-2 Inv-loop μ-loop
+same-length-2 c = search needs
 
 returns-2 : tie.Need-returns-2 Inv-loop μ-loop
 returns-2 c = search (not-fresh, not-true, needs)
@@ -40,8 +46,8 @@ cast-allow c = record { fits = search (count-fits, not-false, needs) }
 mul-allow : tie.Need-mul-allow Inv-loop μ-loop
 mul-allow c = search needs
 
-element-write-allow : tie.Need-element-write-allow Inv-loop μ-loop
-element-write-allow c = search needs
+slice-write-allow : tie.Need-slice-write-allow Inv-loop μ-loop
+slice-write-allow c = search needs
 
 loop-again : tie.Need-loop-again Inv-loop μ-loop
 loop-again c = search (record-passed, not-false, needs)
@@ -58,6 +64,9 @@ add-p c = search needs
 loop-less : tie.Need-loop-less Inv-loop μ-loop
 loop-less c = search needs
 
+same-length-3 : tie.Need-same-length-3 Inv-loop μ-loop
+same-length-3 c = search needs
+
 returns-3 : tie.Need-returns-3 Inv-loop μ-loop
 returns-3 c = search (records-passed, needs)
 
@@ -69,17 +78,20 @@ records-pass-spec =
     μ-loop
     loop-holds
     record-at-requires
+    same-length
     returns
     mul-record-fresh
-    element-copy-out-record-fresh
+    slice-read-record-fresh
     record-fresh-requires
+    same-length-2
     returns-2
     cast-allow
     mul-allow
-    element-write-allow
+    slice-write-allow
     add-sum
     sub-records-left
     add-p
     loop-less
     loop-again
+    same-length-3
     returns-3)
