@@ -11,7 +11,7 @@ use Rattle.config.specs.Limits.{recordWords}
 use Rattle.table.specs.declared.TemplateRecord.{TemplateRecord}
 use Rattle.table.specs.Table.{recordAt, recordsFrom, hasLabel}
 use Rattle.table.proofs.Words.{records-first, records-none}
-use Rattle.table_records.specs.Choose.{greaterOf, greatestLabel, FreeLabel}
+use Rattle.table_records.specs.Choose.{greaterOf, greatestLabel, lastLabel, FreeLabel}
 
 -- the greatest label passed, and then those of the records that are left
 pub record GreatestPassed (w : List ℕ) (from records greatest p left : ℕ) : Type 0 where
@@ -66,5 +66,26 @@ above-absent most k (r ∷ rs) h =
     omega (arith, greater-most most (r .label) .1, greatest-most (greaterOf most (r .label)) rs) in
     rw (ne-eqb k (r .label) (λ e. omega arith)) (above-absent (greaterOf most (r .label)) k rs h)
 
-pub next-free : (rs : List TemplateRecord) (k : ℕ) → k ≡ greatestLabel 0 rs → k < 1023 → FreeLabel rs (k + 1)
-next-free rs k is h = record { below = omega arith; absent = above-absent 0 (k + 1) rs (omega (arith, is)) }
+-- the last label that is taken as the next one
+pub last-of-few : (n : ℕ) → n < 32 → 31 ≡ lastLabel n
+unfolding lastLabel
+last-of-few n h = rw (lt-ltb n 32 h)
+
+pub last-of-all : (n : ℕ) → 32 ≤ n → 1023 ≡ lastLabel n
+unfolding lastLabel
+last-of-all n h = rw (le-ltb n 32 h)
+
+last-within : (n : ℕ) → lastLabel n ≤ 1023
+unfolding lastLabel
+last-within n = by-number (ltb n 32)
+  where
+    by-number : (few : Bool) → cond few 31 1023 ≤ 1023
+    by-number true = omega arith
+    by-number false = omega arith
+
+pub next-free : (rs : List TemplateRecord) (k : ℕ) → k ≡ greatestLabel 0 rs → (n last : ℕ) → last ≡ lastLabel n →
+    k < last → FreeLabel rs (k + 1)
+next-free rs k is n last told h = record {
+  below = omega (arith, last-within n);
+  absent = above-absent 0 (k + 1) rs (omega (arith, is));
+}

@@ -54,6 +54,10 @@ unfoldable pub greatestLabel : ℕ → List TemplateRecord → ℕ
 greatestLabel most [] = most
 greatestLabel most (r ∷ rs) = greatestLabel (greaterOf most (r .label)) rs
 
+-- the last label that is taken as the next one behind the greatest, where there are n records
+unfoldable pub lastLabel : ℕ → ℕ
+lastLabel n = cond (ltb n 32) 31 1023
+
 -- a label that none of these records has
 pub record FreeLabel (rs : List TemplateRecord) (k : ℕ) : Type 0 where
   pub below : k < 1024

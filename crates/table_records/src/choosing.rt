@@ -5,10 +5,11 @@ ghost use lib.ListN.{length};
 ghost use Rattle.config.specs.Limits.{recordWords};
 ghost use Rattle.table.specs.Table.{recordsFrom};
 ghost use Rattle.table_records.specs.Choose.{skipping, skippingOver, evictionsOf, liveRecords, firstLive};
-ghost use Rattle.table_records.specs.Choose.{leastFree, greaterOf, greatestLabel, FreeLabel};
+ghost use Rattle.table_records.specs.Choose.{leastFree, greaterOf, greatestLabel, lastLabel, FreeLabel};
 use super::sums::set_sum;
 use super::sums::sum_of;
 use config::RECORD_WORDS;
+use table::FEW_LABELS;
 use table::LABELS;
 use table::record_at;
 
@@ -16,6 +17,8 @@ use table::record_at;
 const SKIP_ALL: u32 = 262144;
 
 const LAST_LABEL: u64 = 1023;
+
+const LAST_OF_FEW: u64 = 31;
 
 // Has all bodies of the records skipped.
 pub fn skip_records(words: &[u64], from: usize, records: usize, skip: &mut [u32; LABELS])
@@ -170,13 +173,24 @@ fn greatest_label(words: &[u64], from: usize, records: usize) -> u64
     greatest
 }
 
+// The last label that is taken as the next one: few records keep to few labels.
+fn last_label(records: usize) -> u64
+    ensures { λ r. ⌜ r ≡ lastLabel records ⌝ }
+{
+    if records < FEW_LABELS {
+        LAST_OF_FEW
+    } else {
+        LAST_LABEL
+    }
+}
+
 // A label that no record has: the next one, or, where there is none, the least.
 pub fn free_label(words: &[u64], from: usize, records: usize) -> u64
     requires { ⌜ (from + recordWords * records ≤ length (now words)) × (records < 1024) ⌝ }
     ensures { λ r. ⌜ FreeLabel (recordsFrom (now (words .entry)) from records) r ⌝ }
 {
     let greatest = greatest_label(words, from, records);
-    if greatest < LAST_LABEL {
+    if greatest < last_label(records) {
         return greatest + 1;
     }
     let mut used = [0u32; LABELS];

@@ -7,6 +7,9 @@ use Rattle.table_records.proofs.choosing.free_label.Tie as tie
 greatest-label-requires : tie.Need-greatest-label-requires
 greatest-label-requires c κs = search needs
 
+last-label-requires : tie.Need-last-label-requires
+last-label-requires c κs = search needs
+
 add-result : tie.Need-add-result
 add-result c = search needs
 
@@ -27,6 +30,7 @@ free-label-spec =
     tie.close
     (tie.spec
     greatest-label-requires
+    last-label-requires
     add-result
     returns
     skip-records-requires
