@@ -155,6 +155,25 @@ pub fn print_orders(budget: Budget) {
     }
 }
 
+/// Few templates whose labels are not among the few for which less is cleared.
+pub fn print_labels(budget: Budget) {
+    println!("\n### Few templates with great labels\n");
+    println!(
+        "| call, first label | templates | bodies | ours | Rust | ours / Rust | scalar sum \
+         | ours / scalar sum | ours / vectorised sum | per body |"
+    );
+    println!("|---|---:|---:|---:|---:|---:|---:|---:|---:|---:|");
+    for call in [Call::WouldAccept, Call::Figures, Call::OfferHeld, Call::OfferNew, Call::Drain] {
+        for bodies in [16, 256] {
+            for first_label in [0, 1_000] {
+                print!("| {call:?}, {} ", grouped(first_label));
+                let shape = Shape::new(call, 16, bodies, false, LENGTH);
+                print_row(budget, Shape { first_label, ..shape });
+            }
+        }
+    }
+}
+
 /// Prints a row; gives how many scalar sums the call takes.
 fn print_row(budget: Budget, shape: Shape) -> f64 {
     let mut both = Both::new(shape);

@@ -85,7 +85,7 @@ fn front(shape: &Shape) -> Vec<u64> {
         let place = shape.gap + at * shape.length;
         let clock =
             if shape.expired == Expired::None { at as u64 } else { shape.cached_at(template) };
-        words.extend([template as u64, place as u64, shape.length as u64, clock]);
+        words.extend([shape.label_of(template), place as u64, shape.length as u64, clock]);
     }
     words
 }
@@ -95,7 +95,8 @@ fn records(shape: &Shape) -> Vec<u64> {
     index.sort_by_key(|&template| id_of(template));
     let record = |(template, position): (usize, usize)| {
         let count = shape.count_of(template) as u64;
-        [u64::from(id_of(template)), template as u64, count, position as u64, 0, 0, 0, 0]
+        let (id, label) = (u64::from(id_of(template)), shape.label_of(template));
+        [id, label, count, position as u64, 0, 0, 0, 0]
     };
     index.into_iter().enumerate().flat_map(record).collect()
 }

@@ -27,6 +27,7 @@ usage: bench [quick] all
        bench [quick] budget
        bench [quick] cache [WORD]    tables whose name has the word
        bench [quick] orders
+       bench [quick] labels
        bench [quick] moves
        bench stack
        bench counts                  by valgrind
@@ -58,6 +59,7 @@ fn run(budget: Budget, words: &[&str]) -> Result<(), String> {
             budget_rows::print(budget);
             cache_rows::print(budget, "");
             cache_rows::print_orders(budget);
+            cache_rows::print_labels(budget);
             cache_rows::print_moves(budget);
             stack::print();
             counts::print()?;
@@ -72,6 +74,7 @@ fn run(budget: Budget, words: &[&str]) -> Result<(), String> {
         ["cache"] => cache_rows::print(budget, ""),
         ["cache", word] => cache_rows::print(budget, word),
         ["orders"] => cache_rows::print_orders(budget),
+        ["labels"] => cache_rows::print_labels(budget),
         ["moves"] => cache_rows::print_moves(budget),
         ["stack"] => stack::print(),
         ["counts"] => counts::print()?,

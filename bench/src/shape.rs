@@ -84,6 +84,8 @@ pub struct Shape {
     pub offered: usize,
     pub expired: Expired,
     pub order: Order,
+    /// The labels begin at this one.
+    pub first_label: usize,
     /// Whether the newest template is handed out.
     pub handed_out: bool,
 }
@@ -125,6 +127,7 @@ impl Shape {
             offered: length + usize::from(call == Call::OfferLong),
             expired,
             order: Order::Turns,
+            first_label: 0,
             handed_out: matches!(call, Call::PutBack | Call::PlaceHandedOut),
         }
     }
@@ -145,6 +148,10 @@ impl Shape {
             Expired::Newest if template != self.newest() => NOW,
             _ => 0,
         }
+    }
+
+    pub fn label_of(&self, template: usize) -> u64 {
+        (self.first_label + template) as u64
     }
 
     pub fn newest(&self) -> usize {
