@@ -4,6 +4,7 @@ use super::account::Account;
 use super::body::body;
 use super::call::{Answer, Call};
 use super::counts::{Counts, Table as CountTable};
+use super::labels::Labels;
 use super::layout::{self, Entry, Table};
 use super::lent::{Blocks, Lent, Tail};
 use super::limits::{Areas, Limits};
@@ -64,6 +65,7 @@ pub fn run_on(blocks: Blocks, parts: &[Part]) -> Result<ExitCode, String> {
         }
         comparison.print_times();
         print!("{}", std::mem::take(&mut comparison.moved));
+        print!("{}", std::mem::take(&mut comparison.labels));
         counts.push((part.name(), std::mem::take(&mut comparison.counts)));
     }
     let table = CountTable(&counts);
@@ -107,6 +109,7 @@ struct Comparison {
     /// Time within the port, calls, and the longest time, by call.
     times: [(Duration, u32, Duration); 8],
     moved: Moved,
+    labels: Labels,
     tail: Tail,
     before: Lent,
 }
@@ -221,6 +224,7 @@ impl Comparison {
             return Err(format!("expected {state:?} with {limits:?}, the port holds {table:?}"));
         }
         self.moved.add(&table, &state, self.lent.bytes().len());
+        self.labels.add(self.lent.words());
         let areas = self.lent.areas();
         let told = self.lent.figures(areas);
         if told != Ok(figures(&state)) {

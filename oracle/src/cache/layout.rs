@@ -41,6 +41,13 @@ const RECORD: usize = 8;
 const LABELS: usize = 1_024;
 const NO_RECORD: u16 = u16::MAX;
 
+/// The labels of a cache's templates, the handed-out one's among them.
+pub fn labels(words: &[u64]) -> impl ExactSizeIterator<Item = u64> {
+    let records_at = HEADER + ENTRY * (words[0] * words[1]) as usize;
+    let records = words[records_at..].chunks_exact(RECORD).take((words[9] + words[11]) as usize);
+    records.map(|record| record[1])
+}
+
 /// The cache in these words beside so many bytes, or the fault that number 28 is answered for.
 pub fn read(words: &[u64], byte_count: usize) -> Result<Table, &'static str> {
     if words.len() < HEADER {

@@ -15,6 +15,8 @@ pub mod document;
 mod exhaustive;
 mod generator;
 #[cfg(feature = "live")]
+mod labels;
+#[cfg(feature = "live")]
 mod layout;
 #[cfg(feature = "live")]
 mod lent;
