@@ -15,6 +15,7 @@ usage: oracle record-framing FILE
        oracle compare-framing [SEED [COUNT]]   (feature live)
        oracle compare-cache [SEED [LISTS]]     (feature live)
        oracle compare-cache-defaults [SEED [CALLS]]   (feature live)
+       oracle compare-cache-labels [SEED [LISTS]]     (feature live)
        oracle compare-cache-moves [SEED [LISTS]]      (feature live)
        oracle damage-cache [SEED [TRIALS]]     (feature live)
        oracle memory-cache [SEED [TRIALS]]     (feature live)";
@@ -70,6 +71,11 @@ fn run(arguments: &[&str]) -> Result<ExitCode, String> {
         ["compare-cache-defaults", rest @ ..] => {
             let (seed, calls) = seed_and_count(rest, cache::compare::DEFAULT_LIMITS_DEFAULTS)?;
             cache::compare::run_default_limits(seed, calls)
+        }
+        #[cfg(feature = "live")]
+        ["compare-cache-labels", rest @ ..] => {
+            let (seed, lists) = seed_and_count(rest, cache::compare::LABELS_DEFAULTS)?;
+            cache::compare::run_labels(seed, lists)
         }
         #[cfg(feature = "live")]
         ["compare-cache-moves", rest @ ..] => {

@@ -23,6 +23,9 @@ pub const DEFAULTS: (u64, u64) = (1, 200_000);
 /// Seed and number of calls in each list at the default limits.
 pub const DEFAULT_LIMITS_DEFAULTS: (u64, u64) = (1, 20_000);
 
+/// Seed and number of lists in which some thirty templates come and go.
+pub const LABELS_DEFAULTS: (u64, u64) = (1, 100);
+
 /// Seed and number of lists on areas of up to 4 MiB in which bodies move often.
 pub const MOVES_DEFAULTS: (u64, u64) = (1, 600);
 
@@ -31,6 +34,7 @@ pub fn run(seed: u64, lists: u64) -> Result<ExitCode, String> {
         Part::Exhaustive,
         Part::Small { seed, lists },
         Part::Middle { seed },
+        Part::Labels { seed, lists: LABELS_DEFAULTS.1 },
         Part::Defaults { seed, calls: DEFAULT_LIMITS_DEFAULTS.1 },
         Part::Moves { seed, lists: MOVES_DEFAULTS.1 },
     ];
@@ -39,6 +43,10 @@ pub fn run(seed: u64, lists: u64) -> Result<ExitCode, String> {
 
 pub fn run_default_limits(seed: u64, calls: u64) -> Result<ExitCode, String> {
     run_on(Blocks::Guarded, &[Part::Defaults { seed, calls }])
+}
+
+pub fn run_labels(seed: u64, lists: u64) -> Result<ExitCode, String> {
+    run_on(Blocks::Guarded, &[Part::Labels { seed, lists }])
 }
 
 pub fn run_moves(seed: u64, lists: u64) -> Result<ExitCode, String> {

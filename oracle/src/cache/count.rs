@@ -11,6 +11,8 @@ pub const DEFAULTS: (u64, u64) = (1, 200_000);
 
 const DEFAULT_LIMITS_CALLS: u64 = 20_000;
 
+const LABELS_LISTS: u64 = 100;
+
 const MOVES_LISTS: u64 = 600;
 
 pub fn run(seed: u64, lists: u64) -> Result<ExitCode, String> {
@@ -18,6 +20,7 @@ pub fn run(seed: u64, lists: u64) -> Result<ExitCode, String> {
         Part::Exhaustive,
         Part::Small { seed, lists },
         Part::Middle { seed },
+        Part::Labels { seed, lists: LABELS_LISTS },
         Part::Defaults { seed, calls: DEFAULT_LIMITS_CALLS },
         Part::Moves { seed, lists: MOVES_LISTS },
     ];

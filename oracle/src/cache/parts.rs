@@ -6,7 +6,8 @@ use super::counts::Counts;
 use super::exhaustive;
 use super::generator::Generator;
 use super::generator::moves::{LARGE_MOVES, MOVES, SHORT_MOVES};
-use super::generator::profile::{DEFAULTS_BY_BYTES, DEFAULTS_BY_COUNT, MIDDLE, Profile, SMALL};
+use super::generator::profile::{DEFAULTS_BY_BYTES, DEFAULTS_BY_COUNT, LABELS, MIDDLE};
+use super::generator::profile::{Profile, SMALL};
 use super::limits::Limits;
 use super::rows::Rows;
 use std::io::{self, Write};
@@ -16,6 +17,8 @@ const SMALL_LIST: u64 = 60;
 
 const MIDDLE_LISTS: u64 = 20;
 const MIDDLE_LIST: u64 = 5_000;
+
+const LABELS_LIST: u64 = 2_000;
 
 const MOVES_LIST: u64 = 800;
 const SHORT_MOVES_LIST: u64 = 150;
@@ -42,6 +45,8 @@ pub enum Part {
     Small { seed: u64, lists: u64 },
     /// A few long lists by chance, on caches of some hundred bodies.
     Middle { seed: u64 },
+    /// Lists by chance in which some thirty templates come and go.
+    Labels { seed: u64, lists: u64 },
     /// Two long lists by chance at the default limits: one with many bodies, one with large ones.
     Defaults { seed: u64, calls: u64 },
     /// Lists by chance in which bodies move often, on areas of 100 bytes to 4 MiB; and three
@@ -69,6 +74,7 @@ impl Part {
             Self::Exhaustive => "exhaustive",
             Self::Small { .. } => "small",
             Self::Middle { .. } => "middle",
+            Self::Labels { .. } => "labels",
             Self::Defaults { .. } => "defaults",
             Self::Moves { .. } | Self::ShortMoves { .. } => "moves",
         }
@@ -85,6 +91,10 @@ impl Part {
             Self::Middle { seed } => {
                 let mut generator = Generator::new(seed, &MIDDLE);
                 (0..MIDDLE_LISTS).try_for_each(|_| make_calls(taker, &mut generator, MIDDLE_LIST))
+            }
+            Self::Labels { seed, lists } => {
+                let mut generator = Generator::new(seed, &LABELS);
+                (0..lists).try_for_each(|_| make_calls(taker, &mut generator, LABELS_LIST))
             }
             Self::Defaults { seed, calls } => {
                 for profile in [&DEFAULTS_BY_COUNT, &DEFAULTS_BY_BYTES] as [&'static Profile; 2] {

@@ -88,6 +88,30 @@ pub const MIDDLE: Profile = Profile {
     lengths: &[16, 64, 64, 200, 1_024],
 };
 
+/// About as many templates as have few labels, which come and go: some are left of more of them.
+pub const LABELS: Profile = Profile {
+    weights: Weights {
+        offer: 500,
+        drain: 400,
+        put_back: 20,
+        resize: 8,
+        clear: 1,
+        would_accept: 60,
+        read: 10,
+        refused_opening: 2,
+    },
+    limits: labels_limits,
+    areas: |_, _| REPLAYED,
+    wide_resizes: true,
+    tight_resizes: false,
+    first_offers: 150,
+    ids: 120,
+    hot_percent: 0,
+    special_percent: 5,
+    exact_lengths: &[],
+    lengths: &[8, 64],
+};
+
 /// The default limits, filled by the number of bodies and templates.
 pub const DEFAULTS_BY_COUNT: Profile = Profile {
     weights: Weights {
@@ -148,6 +172,13 @@ fn middle_limits(random: &mut Random) -> Limits {
     let (templates, bodies) = random.pick(&[(16, 32), (8, 100), (20, 4), (1, 900)]);
     let total = random.pick(&[16_384, 16_384, 6_000]);
     Limits { templates, bodies, entry: 1_024, total, ttl: any_ttl(random) }
+}
+
+fn labels_limits(random: &mut Random) -> Limits {
+    let templates = random.pick(&[31, 32, 33, 34, 60, 100]);
+    let bodies = 1 + random.below(3);
+    let ttl = random.percent(30).then(|| 1 + random.below(200));
+    Limits { templates, bodies, entry: 64, total: 8_000, ttl }
 }
 
 /// None, 0, small and large.
