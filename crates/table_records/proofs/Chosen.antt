@@ -10,6 +10,7 @@ use Rattle.table.specs.declared.TemplateRecord.{TemplateRecord}
 use Rattle.table.specs.Table.{recordAt, recordsFrom}
 use Rattle.table.proofs.Words.{records-first, records-none}
 use Rattle.table_records.specs.Choose.{setEach, evictionsOf, liveRecords, firstLive, leastFree}
+use Rattle.table_records.proofs.Skips.{length-each}
 
 -- At each record's label is set what f says of it. `left` records are left, from word p on, within the words.
 pub record EachSet (f : TemplateRecord → ℕ) (w sums₀ sums : List ℕ) (from records p left : ℕ) : Type 0 where
@@ -25,6 +26,9 @@ module _ {f : TemplateRecord → ℕ} {w sums₀ sums : List ℕ} {from records 
   pub all-set : left ≤ 0 → sums ≡ setEach f sums₀ (recordsFrom w from records)
   unfolding setEach
   all-set h = rw (records-none w p left h) at (inv .same)
+
+  pub set-as-long : left ≤ 0 → length sums ≡ length sums₀
+  set-as-long h = ap length (all-set h) ∙ length-each f sums₀ (recordsFrom w from records)
 
   pub record-set : (r : TemplateRecord) (n : ℕ) (sums′ : List ℕ) → 0 < left → r ≡ recordAt w p → n ≡ f r →
       sums′ ≡ set sums (r .label) n → EachSet f w sums₀ sums′ from records (p + recordWords) (left - 1)

@@ -7,13 +7,13 @@ use Prim.Native.Nat.{ℕ, zero, suc, _+_, _≤_, _<_}
 use native.Mathlib.Omega.{arith}
 use native.Mathlib.Decide.{ℕ-discrete}
 use lib.Dec.{eqb}
-use lib.ListN.{length, getD, replicate, length-replicate, getD-replicate}
+use lib.ListN.{length, getD, getD-replicate}
 use borrow.Author.Tests.{eqb-true, eqb-false}
 use Rattle.table.specs.declared.TemplateRecord.{TemplateRecord}
 use Rattle.table.specs.Table.{recordsFrom, hasLabel}
 use Rattle.table.proofs.Words.{length-records}
-use Rattle.table_records.specs.Choose.{skipAll, skipping, leastFree, FreeLabel}
-use Rattle.table_records.proofs.Skips.{skipping-at}
+use Rattle.table_records.specs.Choose.{skipAll, skipping, leastFree, RoomForLabels, FreeLabel}
+use Rattle.table_records.proofs.Skips.{length-skipping, skipping-at}
 
 -- the records without the first of a label
 without : ℕ → List TemplateRecord → List TemplateRecord
@@ -79,37 +79,43 @@ module _ (kept : List ℕ) (rs : List TemplateRecord) where
           (omega (arith, rest .0), rest .1)
 
   -- fewer records than labels, and each label with bodies is a record's
-  least-free : length rs < 1024 → ((k : ℕ) → k < 1024 → 0 < getD kept k 0 → hasLabel k rs ≡ true) →
-      (leastFree kept 0 1024 < 1024) × (getD kept (leastFree kept 0 1024) 0 ≡ 0)
-  least-free few known =
-      let found = seek-free 0 1024 (omega arith) (λ j h. absurd (omega arith)) (λ j h. known j (omega arith)) in
+  least-free : (n : ℕ) → length rs < n → ((k : ℕ) → k < n → 0 < getD kept k 0 → hasLabel k rs ≡ true) →
+      (leastFree kept 0 n < n) × (getD kept (leastFree kept 0 n) 0 ≡ 0)
+  least-free n few known =
+      let found = seek-free 0 n (omega arith) (λ j h. absurd (omega arith)) (λ j h. known j (omega arith)) in
       (omega (arith, found .0), found .1)
 
 -- where each label of a record has some
-pub free-found : (w : List ℕ) (p n : ℕ) (used : List ℕ) (k : ℕ) → n < 1024 →
-    used ≡ skipping (replicate 1024 0) (recordsFrom w p n) → k ≡ leastFree used 0 1024 → FreeLabel (recordsFrom w p n) k
-free-found w p n used k few is least =
-    let found = least-free used rs (omega (arith, length-records w p n))
-    (λ j h some. has-some j h (hasLabel j rs) refl some) in
-    let below : k < 1024 = omega (arith, found .0) in
-    record { below = below; absent = has-none below (hasLabel k rs) refl (rw least (found .1)) }
+pub free-found : (w : List ℕ) (p n : ℕ) (clear used : List ℕ) (k : ℕ) → RoomForLabels n clear →
+    used ≡ skipping clear (recordsFrom w p n) → k ≡ leastFree used 0 (length used) → FreeLabel (recordsFrom w p n) k
+free-found w p n clear used k room is least =
+    let found = least-free used rs (length used) (omega (arith, room .more, length-records w p n, long))
+    (λ j h some. has-some j (omega (arith, h, long)) (hasLabel j rs) refl some) in
+    let below : k < length clear = omega (arith, found .0, long) in
+    record {
+      below = omega (arith, room .all-labels);
+      absent = has-none below (hasLabel k rs) refl (rw least (found .1));
+    }
   where
     rs : List TemplateRecord
     rs = recordsFrom w p n
 
-    used-at : (j : ℕ) → j < 1024 → getD used j 0 ≡ cond (hasLabel j rs) skipAll 0
-    used-at j h =
-        rw is
-        (skipping-at j (replicate 1024 0) rs (omega (arith, length-replicate {A = ℕ} 1024 0))
-        ∙ rw (getD-replicate {A = ℕ} 1024 j 0 0 h))
+    long : length used ≡ length clear
+    long = ap length is ∙ length-skipping clear rs
 
-    has-some : (j : ℕ) → j < 1024 → (t : Bool) → hasLabel j rs ≡ t → 0 < getD used j 0 → t ≡ true
+    used-at : (j : ℕ) → j < length clear → getD used j 0 ≡ cond (hasLabel j rs) skipAll 0
+    used-at j h =
+        let none : getD clear j 0 ≡ 0 =
+        ap (λ (l : List ℕ). getD l j 0) (room .cleared) ∙ getD-replicate {A = ℕ} (length clear) j 0 0 h in
+        rw is (skipping-at j clear rs h ∙ rw none)
+
+    has-some : (j : ℕ) → j < length clear → (t : Bool) → hasLabel j rs ≡ t → 0 < getD used j 0 → t ≡ true
     has-some j h true e some = refl
     has-some j h false e some =
         let z : getD used j 0 ≡ 0 = used-at j h ∙ rw e in
         absurd (omega arith)
 
-    has-none : k < 1024 → (t : Bool) → hasLabel k rs ≡ t → getD used k 0 ≡ 0 → t ≡ false
+    has-none : k < length clear → (t : Bool) → hasLabel k rs ≡ t → getD used k 0 ≡ 0 → t ≡ false
     has-none h false e z = refl
     has-none h true e z =
         let some : getD used k 0 ≡ skipAll = used-at k h ∙ rw e in

@@ -2,9 +2,9 @@
 use mathlib.Core.Path.{_≡_}
 use mathlib.Core.List.{List, [], _∷_}
 use mathlib.Core.Bool.{false, cond}
-use Prim.Native.Nat.{ℕ, zero, suc, _+_, _-_, _<_}
+use Prim.Native.Nat.{ℕ, zero, suc, _+_, _-_, _≤_, _<_}
 use lib.Dec.{eqb, ltb}
-use lib.ListN.{getD, set}
+use lib.ListN.{length, getD, set, replicate}
 use Rattle.table.specs.declared.TemplateRecord.{TemplateRecord}
 use Rattle.table.specs.Table.{hasLabel}
 
@@ -57,6 +57,12 @@ greatestLabel most (r ∷ rs) = greatestLabel (greaterOf most (r .label)) rs
 -- the last label that is taken as the next one behind the greatest, where there are n records
 unfoldable pub lastLabel : ℕ → ℕ
 lastLabel n = cond (ltb n 32) 31 1023
+
+-- a number for each of more labels than there are records, none of them in use yet
+pub record RoomForLabels (records : ℕ) (used : List ℕ) : Type 0 where
+  pub cleared : used ≡ replicate (length used) 0
+  pub all-labels : length used ≤ 1024
+  pub more : records < length used
 
 -- a label that none of these records has
 pub record FreeLabel (rs : List TemplateRecord) (k : ℕ) : Type 0 where

@@ -5,7 +5,10 @@ ghost use lib.ListN.{length};
 ghost use Rattle.config.specs.Limits.{recordWords};
 ghost use Rattle.table.specs.Table.{recordsFrom};
 ghost use Rattle.table_records.specs.Choose.{skipping, skippingOver, evictionsOf, liveRecords, firstLive};
-ghost use Rattle.table_records.specs.Choose.{leastFree, greaterOf, greatestLabel, lastLabel, FreeLabel};
+ghost use Rattle.table_records.specs.Choose.{leastFree, greaterOf, greatestLabel, lastLabel, RoomForLabels};
+ghost use Rattle.table_records.specs.Choose.{FreeLabel};
+use super::sums::nth_sum;
+use super::sums::set_nth;
 use super::sums::set_sum;
 use super::sums::sum_of;
 use config::RECORD_WORDS;
@@ -20,8 +23,8 @@ const LAST_LABEL: u64 = 1023;
 
 const LAST_OF_FEW: u64 = 31;
 
-// Has all bodies of the records skipped.
-pub fn skip_records(words: &[u64], from: usize, records: usize, skip: &mut [u32; LABELS])
+// Has all bodies of the records skipped whose labels have a place.
+fn skip_places(words: &[u64], from: usize, records: usize, skip: &mut [u32])
     requires { ⌜ from + recordWords * records ≤ length (now words) ⌝ }
     ensures { λ _.
         ⌜ now (skip .exit) ≡ skipping (now (skip .entry)) (recordsFrom (now (words .entry)) from records) ⌝ }
@@ -30,10 +33,19 @@ pub fn skip_records(words: &[u64], from: usize, records: usize, skip: &mut [u32;
     let mut p = from;
     while left > 0 {
         let template = record_at(words, p);
-        set_sum(skip, template.label, SKIP_ALL);
+        set_nth(skip, template.label, SKIP_ALL);
         left -= 1;
         p += RECORD_WORDS;
     }
+}
+
+// Has all bodies of the records skipped.
+pub fn skip_records(words: &[u64], from: usize, records: usize, skip: &mut [u32; LABELS])
+    requires { ⌜ from + recordWords * records ≤ length (now words) ⌝ }
+    ensures { λ _.
+        ⌜ now (skip .exit) ≡ skipping (now (skip .entry)) (recordsFrom (now (words .entry)) from records) ⌝ }
+{
+    skip_places(words, from, records, skip)
 }
 
 // What is left of `of` after `less`; 0 where there is not so much.
@@ -134,14 +146,14 @@ pub fn first_live(words: &[u64], from: usize, records: usize, live: &[u32; LABEL
     LABELS as u64
 }
 
-// The least label that has 0; where there is none, what is no label.
-fn least_free(used: &[u32; LABELS]) -> u64
-    ensures { λ r. ⌜ r ≡ leastFree (now (used .entry)) 0 1024 ⌝ }
+// The least label that has 0; where there is none, how many there are.
+fn least_free(used: &[u32]) -> u64
+    ensures { λ r. ⌜ r ≡ leastFree (now (used .entry)) 0 (length (now (used .entry))) ⌝ }
 {
     let mut label: u64 = 0;
-    let mut left = LABELS;
+    let mut left = used.len();
     while left > 0 {
-        if sum_of(used, label) == 0 {
+        if nth_sum(used, label) == 0 {
             return label;
         }
         label += 1;
@@ -184,6 +196,16 @@ fn last_label(records: usize) -> u64
     }
 }
 
+// The least label that no record has, found in room for more labels than there are records.
+fn least_unused(words: &[u64], from: usize, records: usize, used: &mut [u32]) -> u64
+    requires { ⌜ from + recordWords * records ≤ length (now words) ⌝ }
+    requires { ⌜ RoomForLabels records (now used) ⌝ }
+    ensures { λ r. ⌜ FreeLabel (recordsFrom (now (words .entry)) from records) r ⌝ }
+{
+    skip_places(words, from, records, used);
+    least_free(used)
+}
+
 // A label that no record has: the next one, or, where there is none, the least.
 pub fn free_label(words: &[u64], from: usize, records: usize) -> u64
     requires { ⌜ (from + recordWords * records ≤ length (now words)) × (records < 1024) ⌝ }
@@ -193,7 +215,10 @@ pub fn free_label(words: &[u64], from: usize, records: usize) -> u64
     if greatest < last_label(records) {
         return greatest + 1;
     }
+    if records < FEW_LABELS {
+        let mut few = [0u32; FEW_LABELS];
+        return least_unused(words, from, records, &mut few);
+    }
     let mut used = [0u32; LABELS];
-    skip_records(words, from, records, &mut used);
-    least_free(&used)
+    least_unused(words, from, records, &mut used)
 }

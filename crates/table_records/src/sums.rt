@@ -5,7 +5,7 @@ ghost use Rattle.table_records.specs.Take.{cappedCount};
 use table::LABELS;
 
 // The sum at a place; past the end, 0.
-fn nth_sum(sums: &[u32], at: u64) -> u32
+pub fn nth_sum(sums: &[u32], at: u64) -> u32
     ensures { λ r. ⌜ r ≡ getD (now (sums .entry)) at 0 ⌝ }
 {
     if (sums.len() as u64) <= at {
@@ -22,7 +22,7 @@ pub fn sum_of(sums: &[u32; LABELS], label: u64) -> u32
 }
 
 // Stores a sum at a place; past the end, nothing.
-fn set_nth(sums: &mut [u32], at: u64, sum: u32)
+pub fn set_nth(sums: &mut [u32], at: u64, sum: u32)
     ensures { λ _. ⌜ now (sums .exit) ≡ set (now (sums .entry)) at sum ⌝ }
 {
     if at < (sums.len() as u64) {

@@ -1,5 +1,4 @@
 use borrow.Author.Needs.{needs}
-use Rattle.table_records.proofs.FreeLabels.{free-found}
 use Rattle.table_records.proofs.GreatestLabels.{next-free}
 use Rattle.table_records.proofs.choosing.free_label.Statement.{statement}
 use Rattle.table_records.proofs.choosing.free_label.Tie as tie
@@ -16,14 +15,23 @@ add-result c = search needs
 returns : tie.Need-returns
 returns c = search (next-free, needs)
 
-skip-records-requires : tie.Need-skip-records-requires
-skip-records-requires c κs = search needs
+slice-aggregate-least-unused : tie.Need-slice-aggregate-least-unused
+slice-aggregate-least-unused c = search needs
 
-least-free-requires : tie.Need-least-free-requires
-least-free-requires c κs = search needs
+least-unused-requires : tie.Need-least-unused-requires
+least-unused-requires c κs = search needs
 
 returns-2 : tie.Need-returns-2
-returns-2 c = search (free-found, needs)
+returns-2 c = search needs
+
+slice-aggregate-least-unused-2 : tie.Need-slice-aggregate-least-unused-2
+slice-aggregate-least-unused-2 c = search needs
+
+least-unused-requires-2 : tie.Need-least-unused-requires-2
+least-unused-requires-2 c κs = search needs
+
+returns-3 : tie.Need-returns-3
+returns-3 c = search needs
 
 pub free-label-spec : {M : Type 1} → statement M
 free-label-spec =
@@ -33,6 +41,9 @@ free-label-spec =
     last-label-requires
     add-result
     returns
-    skip-records-requires
-    least-free-requires
-    returns-2)
+    slice-aggregate-least-unused
+    least-unused-requires
+    returns-2
+    slice-aggregate-least-unused-2
+    least-unused-requires-2
+    returns-3)

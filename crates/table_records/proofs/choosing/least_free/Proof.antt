@@ -1,19 +1,20 @@
+use lib.ListN.{length}
 use borrow.Author.Needs.{needs}
 use Rattle.table_records.proofs.Chosen.{LabelSought, all-labels, label-free, label-taken, no-free-label}
 use Rattle.table_records.proofs.choosing.least_free.Statement.{statement}
 use Rattle.table_records.proofs.choosing.least_free.Tie as tie
 
 abbrev Inv-loop : tie.InvT-loop
-Inv-loop kept label₀ left₀ label left = LabelSought kept 1024 label left
+Inv-loop used label₀ left₀ label left = LabelSought used (length used) label left
 
 abbrev μ-loop : tie.MeasureT-loop
-μ-loop kept label₀ left₀ label left = left
+μ-loop used label₀ left₀ label left = left
 
 loop-holds : tie.Need-loop-holds Inv-loop μ-loop
 loop-holds c = all-labels _ _
 
-sum-of-requires : tie.Need-sum-of-requires Inv-loop μ-loop
-sum-of-requires c κs = search needs
+nth-sum-requires : tie.Need-nth-sum-requires Inv-loop μ-loop
+nth-sum-requires c κs = search needs
 
 returns : tie.Need-returns Inv-loop μ-loop
 returns c = search (label-free, needs)
@@ -40,7 +41,7 @@ least-free-spec =
     Inv-loop
     μ-loop
     loop-holds
-    sum-of-requires
+    nth-sum-requires
     returns
     add-label
     sub-left

@@ -1,8 +1,8 @@
 use borrow.Author.Needs.{needs}
 use Rattle.table_records.specs.Choose.{skipAll}
-use Rattle.table_records.proofs.Chosen.{EachSet, none-set, record-set, all-set}
-use Rattle.table_records.proofs.choosing.skip_records.Statement.{statement}
-use Rattle.table_records.proofs.choosing.skip_records.Tie as tie
+use Rattle.table_records.proofs.Chosen.{EachSet, none-set, record-set, set-as-long, all-set}
+use Rattle.table_records.proofs.choosing.skip_places.Statement.{statement}
+use Rattle.table_records.proofs.choosing.skip_places.Tie as tie
 
 abbrev Inv-loop : tie.InvT-loop
 Inv-loop words from records skip₀ left₀ p₀ skip left p = EachSet (λ r. skipAll) words skip₀ skip from records p left
@@ -16,8 +16,8 @@ loop-holds c = search (none-set, needs)
 record-at-requires : tie.Need-record-at-requires Inv-loop μ-loop
 record-at-requires c κs = search needs
 
-set-sum-requires : tie.Need-set-sum-requires Inv-loop μ-loop
-set-sum-requires c κs = search needs
+set-nth-requires : tie.Need-set-nth-requires Inv-loop μ-loop
+set-nth-requires c κs = search needs
 
 sub-left : tie.Need-sub-left Inv-loop μ-loop
 sub-left c = search needs
@@ -31,20 +31,24 @@ loop-less c = search needs
 loop-again : tie.Need-loop-again Inv-loop μ-loop
 loop-again c = search (record-set, needs)
 
+same-length : tie.Need-same-length Inv-loop μ-loop
+same-length c = search (set-as-long, needs)
+
 returns : tie.Need-returns Inv-loop μ-loop
 returns c = search (all-set, needs)
 
-pub skip-records-spec : {M : Type 1} → statement M
-skip-records-spec =
+pub skip-places-spec : {M : Type 1} → statement M
+skip-places-spec =
     tie.close
     (tie.spec
     Inv-loop
     μ-loop
     loop-holds
     record-at-requires
-    set-sum-requires
+    set-nth-requires
     sub-left
     add-p
     loop-less
     loop-again
+    same-length
     returns)
