@@ -19,10 +19,6 @@ use Rattle.table_entries.specs.Sweep.{swept}
 use Rattle.table_records.specs.Close.{closed, positions, remapped, Closes}
 use Rattle.pending_calls.specs.declared.removal.Removed.{Removed}
 
--- every entry stays by this test
-abbrev pub everything : StayTest
-everything = record { ttl = None; clock = 0; all = false; label = 1024; «max_size» = 18446744073709551615 }
-
 -- the expired bodies of a label go
 abbrev pub unexpired : Ttl → ℕ → ℕ → StayTest
 unexpired ttl clock label = record {
@@ -32,6 +28,10 @@ unexpired ttl clock label = record {
   label = label;
   «max_size» = 18446744073709551615;
 }
+
+-- every entry stays by this test
+abbrev pub everything : StayTest
+everything = unexpired None 0 1024
 
 -- how many bodies each label has; and the same with none for one label
 abbrev pub counted : List Entry → List ℕ

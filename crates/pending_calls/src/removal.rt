@@ -34,19 +34,6 @@ pub struct Removed {
     pub apart: u32,
 }
 
-// The test by which every body stays.
-pub fn stay_all() -> StayTest
-    ensures { λ r. ⌜ r ≡ everything ⌝ }
-{
-    StayTest {
-        ttl: Ttl::None,
-        clock: 0,
-        all: false,
-        label: LABELS as u64,
-        max_size: 18446744073709551615,
-    }
-}
-
 // The test by which the expired bodies of a label go, and no others.
 pub fn label_test(ttl: Ttl, clock: u64, label: u64) -> StayTest
     ensures { λ r. ⌜ r ≡ unexpired ttl clock label ⌝ }
@@ -58,6 +45,13 @@ pub fn label_test(ttl: Ttl, clock: u64, label: u64) -> StayTest
         label,
         max_size: 18446744073709551615,
     }
+}
+
+// The test by which every body stays: nothing expires without a TTL.
+pub fn stay_all() -> StayTest
+    ensures { λ r. ⌜ r ≡ everything ⌝ }
+{
+    label_test(Ttl::None, 0, LABELS as u64)
 }
 
 // Closes the records by how many bodies each label has kept; the record of the label `apart` goes, and what it kept is
