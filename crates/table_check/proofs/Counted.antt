@@ -90,8 +90,9 @@ module _ (l : PendingFlowsConfig) (many : ℕ) (es : List Entry) where
   unfolding allowedBy
   records-say allow sum [] few t f = (tt, tt)
   records-say allow sum (r ∷ rs) few t f =
-      let few′ : length (set allow (r .label) (r .count)) ≤ 1024 = omega (arith, length-set allow (r .label) (r .count)) in
-      let rest = records-say (set allow (r .label) (r .count)) (sum + r .count) rs few′ (first .rest) f in
+      let next = set allow (r .label) (r .count) in
+      let few′ : length next ≤ 1024 = omega (arith, length-set allow (r .label) (r .count)) in
+      let rest = records-say next (sum + r .count) rs few′ (first .rest) f in
       ((legal, rest .0), (apart, rest .1))
     where
       first : FirstLegal cap many allow sum r rs

@@ -80,7 +80,8 @@ module _ (l : PendingFlowsConfig) (w allow₀ : List ℕ) (header : HeaderLegal 
       let many = length-records w (recordsAt (limitsOf w)) (heldCount w + chanceCount w) in
       passes-legal (length allow₀) (tableOf w) (index w)
       (omega (arith, header .chance-single, length-drop (heldCount w) (records w), many))
-      (room .few) (rw (header .limits-read) at (header .total-small)) (rw (take-append-drop (heldCount w) (records w)) (room .enough))
+      (room .few) (rw (header .limits-read) at (header .total-small))
+      (rw (take-append-drop (heldCount w) (records w)) (room .enough))
       (length-index w (recordsAt (limitsOf w)) (heldCount w + chanceCount w)
       ∙ sym (ap length (take-append-drop (heldCount w) (records w)) ∙ many))
 

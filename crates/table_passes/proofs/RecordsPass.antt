@@ -86,8 +86,8 @@ module _ (w : List ℕ) (from records cap entries : ℕ) where
         record { test = rw none at (inv .test); filled = λ _. rw none at (inv .filled) }
 
     module _ (r : TemplateRecord) (more : 0 < left) (is : r ≡ recordAt w p) where
-      next-test : ltb (r .label) (length allow) && (recordFresh cap (getD allow (r .label) 0) r && recordsPass cap entries
-          (set allow (r .label) (r .count)) (sum + r .count) (recordsFrom w (p + recordWords) (left - 1)))
+      next-test : ltb (r .label) (length allow) && (recordFresh cap (getD allow (r .label) 0) r && recordsPass cap
+          entries (set allow (r .label) (r .count)) (sum + r .count) (recordsFrom w (p + recordWords) (left - 1)))
           ≡ recordsPass cap entries allow₀ 0 (recordsFrom w from records)
       unfolding recordsPass
       next-test = rw (records-first w p left more r is) at (inv .test)

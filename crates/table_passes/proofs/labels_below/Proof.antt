@@ -39,4 +39,14 @@ returns-2 c = search (labels-passed, needs)
 pub labels-below-spec : {M : Type 1} → statement M
 labels-below-spec =
     tie.close
-    (tie.spec Inv-loop μ-loop loop-holds record-at-requires returns sub-records-left add-p loop-less loop-again returns-2)
+    (tie.spec
+    Inv-loop
+    μ-loop
+    loop-holds
+    record-at-requires
+    returns
+    sub-records-left
+    add-p
+    loop-less
+    loop-again
+    returns-2)
