@@ -10,11 +10,11 @@ use Rattle.table.specs.Layout.{limitsOf, heldCount, chanceCount, recordsAt}
 use Rattle.table.specs.Table.{records, recordsFrom}
 use Rattle.table_passes.specs.Passes.{labelsBelow}
 use Rattle.table_check.specs.Header.{HeaderLegal}
-use Rattle.table_check.specs.Room.{RoomFor}
+use Rattle.table_check.specs.Room.{RoomForAllowances}
 
 pub room-for-few : (n : ℕ) → n ≤ 1024 → {l : PendingFlowsConfig} {w : List ℕ} → HeaderLegal l w → (from : ℕ) →
     from ≡ recordsAt l → (t : Bool) → t ≡ labelsBelow n (recordsFrom w from (heldCount w + chanceCount w)) →
-    t ≡ true → RoomFor w (replicate n 0)
+    t ≡ true → RoomForAllowances w (replicate n 0)
 room-for-few n few {l} {w} header from there t told holds =
     let long : length (replicate {A = ℕ} n 0) ≡ n = length-replicate n 0 in
     let at : recordsAt (limitsOf w) ≡ from = ap recordsAt (sym (header .limits-read)) ∙ sym there in
@@ -22,6 +22,6 @@ room-for-few n few {l} {w} header from there t told holds =
     ap (λ (p : ℕ). labelsBelow n (recordsFrom w p (heldCount w + chanceCount w))) at ∙ sym told ∙ holds in
     record {
       cleared = ap (λ (k : ℕ). replicate k 0) (sym long);
-      few = omega arith;
+      within = omega arith;
       enough = λ _. rw long below;
     }

@@ -14,7 +14,7 @@ use Rattle.table.specs.Table.{tableOf, index, records, entriesFrom, recordsFrom
 use Rattle.table.specs.WellFormed.{indexRises, tableLegal}
 use Rattle.table.specs.Passes.{firstLabel}
 use Rattle.table_check.specs.Header.{HeaderLegal}
-use Rattle.table_check.specs.Room.{RoomFor}
+use Rattle.table_check.specs.Room.{RoomForAllowances}
 use Rattle.table_passes.specs.Passes.{recordsPass, allowedBy, Allowed, KeysSmall}
 use Rattle.table_entry_test.specs.EntriesPass.{entriesPass}
 use Rattle.table_watch.specs.declared.Sought.{Sought}
@@ -41,8 +41,8 @@ pub keys-small : (w : List ℕ) (p k : ℕ) {cap many : ℕ} {allow allow′ : L
     Allowed cap many (recordsFrom w p k) allow allow′ t → t ≡ true → KeysSmall w p k
 keys-small w p k passed right = small-keys w _ _ p k _ 0 (sym (passed .test) ∙ right)
 
-module _ (l : PendingFlowsConfig) (w allow₀ : List ℕ) (header : HeaderLegal l w) (room : RoomFor w allow₀) (from : ℕ)
-    (there : from ≡ recordsAt l) where
+module _ (l : PendingFlowsConfig) (w allow₀ : List ℕ) (header : HeaderLegal l w) (room : RoomForAllowances w allow₀)
+    (from : ℕ) (there : from ≡ recordsAt l) where
   abbrev cap : ℕ
   cap = l .«max_entries_per_template»
 
@@ -80,7 +80,7 @@ module _ (l : PendingFlowsConfig) (w allow₀ : List ℕ) (header : HeaderLegal 
       let many = length-records w (recordsAt (limitsOf w)) (heldCount w + chanceCount w) in
       passes-legal (length allow₀) (tableOf w) (index w)
       (omega (arith, header .chance-single, length-drop (heldCount w) (records w), many))
-      (room .few) (rw (header .limits-read) at (header .total-small))
+      (room .within) (rw (header .limits-read) at (header .total-small))
       (rw (take-append-drop (heldCount w) (records w)) (room .enough))
       (length-index w (recordsAt (limitsOf w)) (heldCount w + chanceCount w)
       ∙ sym (ap length (take-append-drop (heldCount w) (records w)) ∙ many))

@@ -9,7 +9,7 @@ use Rattle.table_passes.specs.Passes.{labelsBelow}
 
 -- a number for each label from 0 on: none is allowed an entry yet, and the records' labels, if they are labels, are
 -- among them
-pub record RoomFor (w allow : List ℕ) : Type 0 where
+pub record RoomForAllowances (w allow : List ℕ) : Type 0 where
   pub cleared : allow ≡ replicate (length allow) 0
-  pub few : length allow ≤ 1024
+  pub within : length allow ≤ 1024
   pub enough : labelsBelow 1024 (records w) ≡ true → labelsBelow (length allow) (records w) ≡ true

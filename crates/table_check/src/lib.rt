@@ -9,7 +9,7 @@ ghost use Rattle.config.specs.Limits.{headerWords, maxBodies};
 ghost use Rattle.table.specs.Layout.{limitsOf};
 ghost use Rattle.table.specs.WellFormed.{flagsLegal, countsLegal, wellFormed};
 ghost use Rattle.table_check.specs.Header.{HeaderLegal};
-ghost use Rattle.table_check.specs.Room.{RoomFor};
+ghost use Rattle.table_check.specs.Room.{RoomForAllowances};
 ghost use Rattle.table_check.specs.Examined.{tableExamined, examined};
 use config::ConfigAnswer;
 use config::HEADER_WORDS;
@@ -42,7 +42,7 @@ fn test_table(
     limits: PendingFlowsConfig,
     sought: Sought,
 ) -> TableSeen
-    requires { ⌜ HeaderLegal limits (now words) × RoomFor (now words) (now allow) ⌝ }
+    requires { ⌜ HeaderLegal limits (now words) × RoomForAllowances (now words) (now allow) ⌝ }
     ensures { λ r. ⌜ r ≡ tableExamined (now (words .entry)) sought ⌝ }
 {
     let from = records_at(limits);

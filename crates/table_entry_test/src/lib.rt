@@ -40,8 +40,8 @@ fn held_len(entry: Entry, out: u64) -> u64
     if entry.label == out { 0 } else { entry.len }
 }
 
-// The pass over the entries: each takes one of its label's allowance, and bodies follow one another. What is watched is
-// seen on the way.
+// The pass over the entries: each takes one of its label's allowance, bodies follow one another, and the last one ends
+// within the total. What is watched is seen on the way.
 pub fn entries_pass(
     words: &[u64],
     allow: &mut [u32],

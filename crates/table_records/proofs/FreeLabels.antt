@@ -7,7 +7,7 @@ use Prim.Native.Nat.{ℕ, zero, suc, _+_, _≤_, _<_}
 use native.Mathlib.Omega.{arith}
 use native.Mathlib.Decide.{ℕ-discrete}
 use lib.Dec.{eqb}
-use lib.ListN.{length, getD, getD-replicate}
+use lib.ListN.{length, getD, replicate, length-replicate, getD-replicate}
 use borrow.Author.Tests.{eqb-true, eqb-false}
 use Rattle.table.specs.declared.TemplateRecord.{TemplateRecord}
 use Rattle.table.specs.Table.{recordsFrom, hasLabel}
@@ -93,7 +93,8 @@ free-found w p n clear used k room is least =
     (λ j h some. has-some j (omega (arith, h, long)) (hasLabel j rs) refl some) in
     let below : k < length clear = omega (arith, found .0, long) in
     record {
-      below = omega (arith, room .all-labels);
+      below = omega (arith, room .within);
+      few = λ h. omega (arith, room .few (omega (arith, length-records w p n)));
       absent = has-none below (hasLabel k rs) refl (rw least (found .1));
     }
   where
@@ -120,3 +121,14 @@ free-found w p n clear used k room is least =
     has-none h true e z =
         let some : getD used k 0 ≡ skipAll = used-at k h ∙ rw e in
         absurd (omega arith)
+
+-- for records that are not few there is room for all labels
+pub room-for-all : (n : ℕ) → 32 ≤ n → n < 1024 → RoomForLabels n (replicate 1024 0)
+room-for-all n many under =
+    let long : length (replicate {A = ℕ} 1024 0) ≡ 1024 = length-replicate {A = ℕ} 1024 0 in
+    record {
+      cleared = ap (λ (k : ℕ). replicate k 0) (sym long);
+      within = omega arith;
+      more = omega arith;
+      few = λ h. absurd (omega arith);
+    }

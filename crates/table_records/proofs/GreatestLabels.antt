@@ -10,7 +10,7 @@ use borrow.Author.Tests.{ltb-true, ltb-false, lt-ltb, le-ltb, ne-eqb}
 use Rattle.config.specs.Limits.{recordWords}
 use Rattle.table.specs.declared.TemplateRecord.{TemplateRecord}
 use Rattle.table.specs.Table.{recordAt, recordsFrom, hasLabel}
-use Rattle.table.proofs.Words.{records-first, records-none}
+use Rattle.table.proofs.Words.{records-first, records-none, length-records}
 use Rattle.table_records.specs.Choose.{greaterOf, greatestLabel, lastLabel, FreeLabel}
 
 -- the greatest label passed, and then those of the records that are left
@@ -83,9 +83,10 @@ last-within n = by-number (ltb n 32)
     by-number true = omega arith
     by-number false = omega arith
 
-pub next-free : (rs : List TemplateRecord) (k : ℕ) → k ≡ greatestLabel 0 rs → (n last : ℕ) → last ≡ lastLabel n →
-    k < last → FreeLabel rs (k + 1)
-next-free rs k is n last told h = record {
+pub next-free : (w : List ℕ) (p n k : ℕ) → k ≡ greatestLabel 0 (recordsFrom w p n) → (last : ℕ) →
+    last ≡ lastLabel n → k < last → FreeLabel (recordsFrom w p n) (k + 1)
+next-free w p n k is last told h = record {
   below = omega (arith, last-within n);
-  absent = above-absent 0 (k + 1) rs (omega (arith, is));
+  few = λ few. omega (arith, last-of-few n (omega (arith, length-records w p n)));
+  absent = above-absent 0 (k + 1) (recordsFrom w p n) (omega (arith, is));
 }

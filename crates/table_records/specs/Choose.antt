@@ -54,17 +54,19 @@ unfoldable pub greatestLabel : ℕ → List TemplateRecord → ℕ
 greatestLabel most [] = most
 greatestLabel most (r ∷ rs) = greatestLabel (greaterOf most (r .label)) rs
 
--- the last label that is taken as the next one behind the greatest, where there are n records
+-- the last label that is taken as the one behind the greatest, where there are n records
 unfoldable pub lastLabel : ℕ → ℕ
 lastLabel n = cond (ltb n 32) 31 1023
 
--- a number for each of more labels than there are records, none of them in use yet
+-- a number for each of more labels than there are records, none of them in use yet; few labels for few records
 pub record RoomForLabels (records : ℕ) (used : List ℕ) : Type 0 where
   pub cleared : used ≡ replicate (length used) 0
-  pub all-labels : length used ≤ 1024
+  pub within : length used ≤ 1024
   pub more : records < length used
+  pub few : records < 32 → length used ≤ 32
 
--- a label that none of these records has
+-- a label that none of these records has: one of few where they are few
 pub record FreeLabel (rs : List TemplateRecord) (k : ℕ) : Type 0 where
   pub below : k < 1024
+  pub few : length rs < 32 → k < 32
   pub absent : hasLabel k rs ≡ false

@@ -23,8 +23,8 @@ const LAST_LABEL: u64 = 1023;
 
 const LAST_OF_FEW: u64 = 31;
 
-// Has all bodies of the records skipped whose labels have a place.
-fn skip_places(words: &[u64], from: usize, records: usize, skip: &mut [u32])
+// Has all bodies of the records skipped; a label past the end of the slice is left out.
+fn skip_labels(words: &[u64], from: usize, records: usize, skip: &mut [u32])
     requires { ⌜ from + recordWords * records ≤ length (now words) ⌝ }
     ensures { λ _.
         ⌜ now (skip .exit) ≡ skipping (now (skip .entry)) (recordsFrom (now (words .entry)) from records) ⌝ }
@@ -45,7 +45,7 @@ pub fn skip_records(words: &[u64], from: usize, records: usize, skip: &mut [u32;
     ensures { λ _.
         ⌜ now (skip .exit) ≡ skipping (now (skip .entry)) (recordsFrom (now (words .entry)) from records) ⌝ }
 {
-    skip_places(words, from, records, skip)
+    skip_labels(words, from, records, skip)
 }
 
 // What is left of `of` after `less`; 0 where there is not so much.
@@ -146,7 +146,7 @@ pub fn first_live(words: &[u64], from: usize, records: usize, live: &[u32; LABEL
     LABELS as u64
 }
 
-// The least label that has 0; where there is none, how many there are.
+// The least label that has 0; where there is none, the length of `used`.
 fn least_free(used: &[u32]) -> u64
     ensures { λ r. ⌜ r ≡ leastFree (now (used .entry)) 0 (length (now (used .entry))) ⌝ }
 {
@@ -185,7 +185,7 @@ fn greatest_label(words: &[u64], from: usize, records: usize) -> u64
     greatest
 }
 
-// The last label that is taken as the next one: few records keep to few labels.
+// The last label that is taken as the one behind the greatest: few records keep to few labels.
 fn last_label(records: usize) -> u64
     ensures { λ r. ⌜ r ≡ lastLabel records ⌝ }
 {
@@ -202,11 +202,11 @@ fn least_unused(words: &[u64], from: usize, records: usize, used: &mut [u32]) ->
     requires { ⌜ RoomForLabels records (now used) ⌝ }
     ensures { λ r. ⌜ FreeLabel (recordsFrom (now (words .entry)) from records) r ⌝ }
 {
-    skip_places(words, from, records, used);
+    skip_labels(words, from, records, used);
     least_free(used)
 }
 
-// A label that no record has: the next one, or, where there is none, the least.
+// A label that no record has: the one behind the greatest, up to the last that is taken so, or else the least.
 pub fn free_label(words: &[u64], from: usize, records: usize) -> u64
     requires { ⌜ (from + recordWords * records ≤ length (now words)) × (records < 1024) ⌝ }
     ensures { λ r. ⌜ FreeLabel (recordsFrom (now (words .entry)) from records) r ⌝ }

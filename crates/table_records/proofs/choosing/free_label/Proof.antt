@@ -1,4 +1,5 @@
 use borrow.Author.Needs.{needs}
+use Rattle.table_records.proofs.FreeLabels.{room-for-all}
 use Rattle.table_records.proofs.GreatestLabels.{next-free}
 use Rattle.table_records.proofs.choosing.free_label.Statement.{statement}
 use Rattle.table_records.proofs.choosing.free_label.Tie as tie
@@ -28,7 +29,7 @@ slice-aggregate-least-unused-2 : tie.Need-slice-aggregate-least-unused-2
 slice-aggregate-least-unused-2 c = search needs
 
 least-unused-requires-2 : tie.Need-least-unused-requires-2
-least-unused-requires-2 c κs = search needs
+least-unused-requires-2 c κs = (search needs, search (room-for-all, needs))
 
 returns-3 : tie.Need-returns-3
 returns-3 c = search needs

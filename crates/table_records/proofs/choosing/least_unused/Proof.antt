@@ -3,8 +3,8 @@ use Rattle.table_records.proofs.FreeLabels.{free-found}
 use Rattle.table_records.proofs.choosing.least_unused.Statement.{statement}
 use Rattle.table_records.proofs.choosing.least_unused.Tie as tie
 
-skip-places-requires : tie.Need-skip-places-requires
-skip-places-requires c κs = search needs
+skip-labels-requires : tie.Need-skip-labels-requires
+skip-labels-requires c κs = search needs
 
 least-free-requires : tie.Need-least-free-requires
 least-free-requires c κs = search needs
@@ -17,4 +17,4 @@ returns c = search (free-found, needs)
 
 pub least-unused-spec : {M : Type 1} → statement M
 least-unused-spec =
-    tie.close (tie.spec skip-places-requires least-free-requires same-length returns)
+    tie.close (tie.spec skip-labels-requires least-free-requires same-length returns)

@@ -1,8 +1,8 @@
 use borrow.Author.Needs.{needs}
 use Rattle.table_records.specs.Choose.{skipAll}
 use Rattle.table_records.proofs.Chosen.{EachSet, none-set, record-set, set-as-long, all-set}
-use Rattle.table_records.proofs.choosing.skip_places.Statement.{statement}
-use Rattle.table_records.proofs.choosing.skip_places.Tie as tie
+use Rattle.table_records.proofs.choosing.skip_labels.Statement.{statement}
+use Rattle.table_records.proofs.choosing.skip_labels.Tie as tie
 
 abbrev Inv-loop : tie.InvT-loop
 Inv-loop words from records skip₀ left₀ p₀ skip left p = EachSet (λ r. skipAll) words skip₀ skip from records p left
@@ -37,8 +37,8 @@ same-length c = search (set-as-long, needs)
 returns : tie.Need-returns Inv-loop μ-loop
 returns c = search (all-set, needs)
 
-pub skip-places-spec : {M : Type 1} → statement M
-skip-places-spec =
+pub skip-labels-spec : {M : Type 1} → statement M
+skip-labels-spec =
     tie.close
     (tie.spec
     Inv-loop
