@@ -155,7 +155,7 @@ pub fn print_orders(budget: Budget) {
     }
 }
 
-/// Few templates whose labels are not among the few for which less is cleared.
+/// Few templates, with labels for which less is cleared and with greater ones.
 pub fn print_labels(budget: Budget) {
     println!("\n### Few templates with great labels\n");
     println!(

@@ -1,9 +1,11 @@
-//! How deep a call writes into the stack: it runs on a stack of its own, full of a pattern.
+//! How deep a call writes into the stack: it runs on a stack of its own, full of a pattern. Of a cache
+//! with few labels and one with great ones, the deeper.
 
 use crate::both::Both;
 use crate::cache_rows::TABLES;
 use crate::figures::grouped;
 use crate::port;
+use crate::shape::Shape;
 use std::arch::asm;
 use std::hint::black_box;
 
@@ -19,9 +21,11 @@ pub fn print() {
     println!("|---|---:|");
     println!("| none (the measuring itself) | {} |", grouped(depth_of(&mut || ())));
     for table in TABLES {
-        let mut both = Both::new(table.shape(16, 256));
-        let mut call = || _ = both.ours();
-        println!("| {} | {} |", table.name, grouped(depth_of(&mut call)));
+        let depth = [0, 1_000].map(|first_label| {
+            let mut both = Both::new(Shape { first_label, ..table.shape(16, 256) });
+            depth_of(&mut || _ = both.ours())
+        });
+        println!("| {} | {} |", table.name, grouped(depth[0].max(depth[1])));
     }
     let body = vec![1; 1_500];
     for (name, function) in [

@@ -23,7 +23,7 @@ pub const DEFAULTS: (u64, u64) = (1, 200_000);
 /// Seed and number of calls in each list at the default limits.
 pub const DEFAULT_LIMITS_DEFAULTS: (u64, u64) = (1, 20_000);
 
-/// Seed and number of lists in which some thirty templates come and go.
+/// Seed and number of lists in which templates come and go.
 pub const LABELS_DEFAULTS: (u64, u64) = (1, 100);
 
 /// Seed and number of lists on areas of up to 4 MiB in which bodies move often.

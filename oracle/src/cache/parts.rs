@@ -45,7 +45,7 @@ pub enum Part {
     Small { seed: u64, lists: u64 },
     /// A few long lists by chance, on caches of some hundred bodies.
     Middle { seed: u64 },
-    /// Lists by chance in which some thirty templates come and go.
+    /// Lists by chance in which templates come and go, now fewer than 32 and now more.
     Labels { seed: u64, lists: u64 },
     /// Two long lists by chance at the default limits: one with many bodies, one with large ones.
     Defaults { seed: u64, calls: u64 },

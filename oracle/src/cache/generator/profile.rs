@@ -88,7 +88,7 @@ pub const MIDDLE: Profile = Profile {
     lengths: &[16, 64, 64, 200, 1_024],
 };
 
-/// About as many templates as have few labels, which come and go: some are left of more of them.
+/// Templates come and go, now fewer than 32 and now more, so that few are left of many.
 pub const LABELS: Profile = Profile {
     weights: Weights {
         offer: 500,
