@@ -3,6 +3,7 @@ pub mod Labels
 pub mod Sums
 pub mod Live
 pub mod Skips
+pub mod Reaches
 pub mod Tables
 pub mod Planned
 pub mod Steps

@@ -58,14 +58,9 @@ module _ (b : List ℕ) (es : List Entry) where
   none-evicted most more (r ∷ rs) fits room =
       rw (le-ltb most (sumTemplates size (templatesAt b es (r ∷ rs)) + more) (omega arith))
 
-  -- the first template's bytes are some of all
+  -- the bytes of the first template
   abbrev pub firstSize : List TemplateRecord → ℕ
   firstSize rs = sumBodies size (bodiesAt b (firstLabel rs) es)
-
-  pub first-size : (rs : List TemplateRecord) → 0 < sumTemplates size (templatesAt b es rs) →
-      firstSize rs ≤ sumTemplates size (templatesAt b es rs)
-  first-size [] some = omega arith
-  first-size (r ∷ rs) some = omega arith
 
   -- one where there is room without its bytes
   pub one-evicted : (most more : ℕ) (rs : List TemplateRecord) → more ≤ most →

@@ -6,7 +6,7 @@ use Prim.Native.Nat.{ℕ, _+_, _*_, _-_, _≤_, _<_}
 use native.Mathlib.Omega.{arith}
 use lib.Dec.{eqb, leb, ltb}
 use lib.ListN.{length, getD}
-use borrow.Author.Tests.{eqb-true, lt-ltb, le-ltb, lt-leb, le-leb}
+use borrow.Author.Tests.{eqb-true, leb-true, lt-ltb, le-ltb, lt-leb, le-leb}
 use Rattle.config.specs.declared.Ttl.the-variants.{None}
 use Rattle.config.specs.declared.PendingFlowsConfig.{PendingFlowsConfig}
 use Rattle.config.specs.Limits.{recordWords, entryWords, maxBodies}
@@ -14,12 +14,11 @@ use Rattle.config.proofs.Lists.{All, all-both}
 use Rattle.table.specs.declared.Entry.{Entry}
 use Rattle.table.specs.declared.TemplateRecord.{TemplateRecord}
 use Rattle.table.specs.declared.RecordFound.{RecordFound}
-use Rattle.table.specs.declared.LiveFigures.{LiveFigures}
 use Rattle.table.specs.Layout.{limitsOf, entriesAt, recordsAt}
 use Rattle.table.specs.Table.{tableOf, entriesFrom, recordsFrom, tally}
 use Rattle.table.specs.Passes.{firstLabel}
 use Rattle.table.specs.WellFormed.{wellFormed}
-use Rattle.table.specs.Reads.{recordOf, labelIn, countIn, labelOf, countOf, liveCount, liveFigures}
+use Rattle.table.specs.Reads.{recordOf, labelIn, countIn, labelOf, countOf, liveCount}
 use Rattle.table.proofs.Words.{length-records}
 use Rattle.table_entries.specs.declared.StayTest.{StayTest}
 use Rattle.table_entries.specs.Sums.{summed}
@@ -32,11 +31,12 @@ use Rattle.pending_flows.specs.Header.{figuresAt}
 use Rattle.pending_flows.specs.View.{cacheOf, templatesAt}
 use Rattle.pending_flows.proofs.Questions as Questions
 use Rattle.table_view.proofs.AllStay.{all-live}
-use Rattle.offer_plan.specs.Plan.{liveTest, liveSums, liveIn, LiveRead}
+use Rattle.offer_plan.specs.Plan.{liveTest, lensOf, liveSums, liveIn, LiveRead}
 use Rattle.offer_plan.specs.Plan.{liveAt, othersFill, firstEvicted, firstOfFull, Decides}
-use Rattle.offer_plan.proofs.RecordReads.{evictions-read, none-evicted, firstSize, first-size, one-evicted}
+use Rattle.offer_plan.proofs.RecordReads.{evictions-read, none-evicted, firstSize, one-evicted}
 use Rattle.offer_plan.proofs.Live.{label-is, count-is, live-is}
-use Rattle.offer_plan.proofs.Tables.{held-sized, total-held, held-are, first-bytes-read}
+use Rattle.offer_plan.proofs.Reaches.{lens-read}
+use Rattle.offer_plan.proofs.Tables.{within, held-sized, total-held, held-are}
 
 -- ---- the least recent live template
 
@@ -149,11 +149,6 @@ module _ (l : PendingFlowsConfig) (id clock : ℕ) (w : List ℕ) (es : List Ent
         none-expired = fresh;
       }
 
--- the first record's figures, by its label
-pub first-figures-read : (rs : List TemplateRecord) (es : List Entry) (k : ℕ) (r : LiveFigures) → k ≡ firstLabel rs →
-    r ≡ liveFigures None 0 k es → r ≡ liveFigures None 0 (firstLabel rs) es
-first-figures-read rs es k r is read = read ∙ ap (λ (n : ℕ). liveFigures None 0 n es) is
-
 -- ---- the evictions, with the limits l and the figures f that were read
 
 module _ (w b : List ℕ) (ok : wellFormed w (length b) ≡ true) (l : PendingFlowsConfig) (limits : l ≡ limitsOf w)
@@ -186,26 +181,21 @@ module _ (w b : List ℕ) (ok : wellFormed w (length b) ≡ true) (l : PendingFl
         (evictions-read b (tableOf w .entries) (l .«max_total_bytes») len _ _ (tableOf w .held) fits
         (held-sized w b ok 0) (total-held w b ok))
 
-    module _ (full : l .«max_total_bytes» - len < f .total) (p : ℕ) (first : LiveFigures) (from : p ≡ recordsAt l)
-        (read : first ≡ liveFigures None 0 (firstLabel (recordsFrom w p (f .templates))) (entriesFrom w entriesAt
-        (f .entries))) where
-      -- all bytes, and those of the first template
-      all-bytes : f .total ≡ sumTemplates size (templatesAt b (tableOf w .entries) (tableOf w .held))
-      all-bytes = ap (λ (g : HeaderFigures). g .total) figures ∙ total-held w b ok
+    -- the first template's bytes, by its entries
+    abbrev firstLens : ℕ → ℕ
+    firstLens p = lensOf (firstLabel (recordsFrom w p (f .templates))) (entriesFrom w entriesAt (f .entries))
 
-      first-is : first .bytes ≡ firstSize b (tableOf w .entries) (tableOf w .held)
-      first-is =
-          let start : p ≡ recordsAt (limitsOf w) = from ∙ ap recordsAt limits in
-          ap (λ (g : LiveFigures). g .bytes) read ∙ rw (figures, start, held-are w b ok)
-          (first-bytes-read w b ok (omega (arith, ap (λ (g : HeaderFigures). g .total) figures)))
-
-      pub first-within : first .bytes ≤ f .total
-      first-within =
-          let part = first-size b (tableOf w .entries) (tableOf w .held) (omega (arith, all-bytes)) in
-          omega (arith, first-is, all-bytes, part)
-
-      pub one-makes-room : f .total - first .bytes ≤ l .«max_total_bytes» - len →
-          1 ≡ evictions (l .«max_total_bytes») len (cacheOf (tableOf w) b .held)
-      one-makes-room room =
-          one-evicted b (tableOf w .entries) (l .«max_total_bytes») len (tableOf w .held) fits
-          (omega (arith, all-bytes)) (omega (arith, all-bytes, first-is))
+    -- where they are at least the bytes that are over, it makes room
+    pub one-makes-room : (p : ℕ) (t : Bool) → l .«max_total_bytes» - len < f .total → p ≡ recordsAt l →
+        t ≡ leb (f .total - (l .«max_total_bytes» - len)) (firstLens p) → t ≡ true →
+        1 ≡ evictions (l .«max_total_bytes») len (cacheOf (tableOf w) b .held)
+    one-makes-room p t full from read reached =
+        let start : p ≡ recordsAt (limitsOf w) = from ∙ ap recordsAt limits in
+        let first : firstLens p ≡ firstSize b (tableOf w .entries) (tableOf w .held) =
+        rw (figures, start, held-are w b ok)
+        (lens-read b (firstLabel (tableOf w .held)) (tableOf w .entries) (within w b ok)) in
+        let enough = leb-true (f .total - (l .«max_total_bytes» - len)) (firstLens p) (sym read ∙ reached) in
+        let all : f .total ≡ sumTemplates size (templatesAt b (tableOf w .entries) (tableOf w .held)) =
+        ap (λ (g : HeaderFigures). g .total) figures ∙ total-held w b ok in
+        one-evicted b (tableOf w .entries) (l .«max_total_bytes») len (tableOf w .held) fits
+        (omega (arith, all)) (omega (arith, all, first, enough))

@@ -53,7 +53,7 @@ module _ (b : List ℕ) (k : ℕ) where
     all-unaged clock =
         ap (sumBodies size) (keep-unaged (liveTest None clock) es within short ∙ keep-true (bodiesAt b k es))
 
-    pub sizes-most : (most : ℕ) → Placed 0 most es → sumBodies size (bodiesAt b k es) ≤ most
+    sizes-most : (most : ℕ) → Placed 0 most es → sumBodies size (bodiesAt b k es) ≤ most
     sizes-most most p =
         let q = liveTest None 0 in
         omega (arith, all-unaged 0, label-bytes b q k es within, label-bytes-most q k 0 most es (omega arith) p)

@@ -4,7 +4,6 @@ use mathlib.Core.Path.{_≡_, sym, ap, _∙_}
 use mathlib.Core.Bool.{Bool, true, false, not, cond}
 use mathlib.Core.List.{List, [], _∷_, _++_}
 use Prim.Native.Nat.{ℕ, suc, _+_, _*_, _-_, _≤_, _<_}
-use native.Mathlib.Nat.{mod-eq-of-lt}
 use native.Mathlib.Omega.{arith}
 use lib.Dec.{ltb}
 use lib.ListN.{length, take, drop}
@@ -15,26 +14,23 @@ use Rattle.table.specs.declared.Entry.{Entry}
 use Rattle.table.specs.declared.TemplateRecord.{TemplateRecord}
 use Rattle.table.specs.Layout.{limitsOf, totalWord, heldCount, entryCount, chanceCount, entriesAt, recordsAt}
 use Rattle.table.specs.Table.{tableOf, index, recordsFrom, tally}
-use Rattle.table.specs.Passes.{firstLabel}
-use Rattle.table.specs.Reads.{liveLens, liveFigures}
 use Rattle.table.specs.WellFormed.{wellFormed}
 use Rattle.table.proofs.Words.{length-entries, length-records, records-behind}
 use Rattle.table.proofs.Facts.{LegalWords, words-say, differ-front}
 use Rattle.table_entries.specs.Sums.{summed}
 use Rattle.table_entries.proofs.LabelSums.{zeros}
-use Rattle.cache_model.specs.Bodies.{Template, size, sumBodies, sumTemplates, expired}
+use Rattle.cache_model.specs.Bodies.{Template, size, sumTemplates, expired}
 use Rattle.cache_model.specs.Removal.{evictions}
-use Rattle.cache_model.proofs.Weights.{keep-true}
-use Rattle.pending_flows.specs.View.{bodiesAt, templatesAt}
+use Rattle.pending_flows.specs.View.{templatesAt}
 use Rattle.pending_flows.proofs.Templates.{length-templates, live-bodies}
 use Rattle.pending_flows.proofs.Questions.{first-records}
 use Rattle.table_view.proofs.Tied.{Tied, words-tied}
 use Rattle.table_view.proofs.Swept.{Within, placed-within}
 use Rattle.table_view.proofs.Removed.{placed-short}
-use Rattle.table_view.proofs.Totals.{lens-total, live-lens}
+use Rattle.table_view.proofs.Totals.{lens-total}
 use Rattle.offer_plan.specs.Plan.{liveTest, LiveRead}
 use Rattle.offer_plan.proofs.RecordReads.{Sized, Counted}
-use Rattle.offer_plan.proofs.Sums.{sizes-most, sizes-summed, live-summed}
+use Rattle.offer_plan.proofs.Sums.{sizes-summed, live-summed}
 
 -- no more templates go than there are
 pub evictions-few : (most more : ℕ) (ts : List Template) → evictions most more ts ≤ length ts
@@ -114,25 +110,6 @@ module _ (w b : List ℕ) (ok : wellFormed w (length b) ≡ true) where
   total-held =
       legal .table-legal .total-right
       ∙ lens-total b held es (differ-front (λ r. r .label) held (tableOf w .handed) (rows .labels-differ)) within
-
-  -- the bytes of a label's bodies, by its entries
-  label-bytes-read : (k : ℕ) → k < 1024 → liveFigures None 0 k es .bytes ≡ sumBodies size (bodiesAt b k es)
-  label-bytes-read k small =
-      let lens : liveLens None 0 k es ≡ sumBodies size (bodiesAt b k es) =
-      live-lens b None 0 k es within ∙ ap (sumBodies size) (keep-true (bodiesAt b k es)) in
-      let few = sizes-most b k small es within short (limitsOf w .«max_total_bytes»)
-      (legal .table-legal .entries-placed) in
-      mod-eq-of-lt (omega (arith, lens, few, legal .limits-legal .total-small)) ∙ lens
-
-  -- of the first template
-  pub first-bytes-read : 0 < totalWord w →
-      liveFigures None 0 (firstLabel held) es .bytes ≡ sumBodies size (bodiesAt b (firstLabel held) es)
-  first-bytes-read some = label-bytes-read (firstLabel held) (by-records held labels-small (rw total-held at some))
-    where
-      by-records : (rs : List TemplateRecord) → All (λ r. r .label < 1024) rs →
-          0 < sumTemplates size (templatesAt b es rs) → firstLabel rs < 1024
-      by-records [] small n = omega arith
-      by-records (r ∷ rs) small n = small .0
 
   -- the held records, those that go and those that stay, and what is handed out
   pub held-are : recordsFrom w from (heldCount w) ≡ held

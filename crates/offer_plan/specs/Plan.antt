@@ -1,10 +1,10 @@
 -- What an offer decides before anything is written: the model's plan (cache_model, proofs/Plans.antt), read off the
 -- records and the live bodies of each label.
 use mathlib.Core.Path.{_≡_}
-use mathlib.Core.List.{List}
+use mathlib.Core.List.{List, [], _∷_}
 use mathlib.Core.Bool.{Bool, true, false, not, _&&_, cond}
-use Prim.Native.Nat.{ℕ, _≤_, _<_}
-use lib.Dec.{leb, ltb}
+use Prim.Native.Nat.{ℕ, _+_, _≤_, _<_}
+use lib.Dec.{eqb, leb, ltb}
 use lib.ListN.{length, getD, set, take, drop, replicate}
 use Rattle.config.specs.declared.Ttl.{Ttl}
 use Rattle.config.specs.declared.PendingFlowsConfig.{PendingFlowsConfig}
@@ -40,6 +40,11 @@ liveTest ttl clock = record {
   label = 1024;
   «max_size» = 18446744073709551615;
 }
+
+-- the lengths of the entries of a label together
+unfoldable pub lensOf : ℕ → List Entry → ℕ
+lensOf label [] = 0
+lensOf label (e ∷ es) = cond (eqb label (e .label)) (e .len) 0 + lensOf label es
 
 -- how many live bodies each label has
 abbrev pub liveSums : Ttl → ℕ → List Entry → List ℕ

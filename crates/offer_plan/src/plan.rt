@@ -5,34 +5,28 @@ ghost use Prim.Native.Nat.{_+_, _*_, _≤_};
 ghost use lib.ListN.{length, replicate};
 ghost use Rattle.config.specs.Limits.{recordWords, entryWords};
 ghost use Rattle.table.specs.Layout.{limitsOf, heldCount, entriesAt};
-ghost use Rattle.table.specs.Table.{tableOf, entriesFrom, recordsFrom};
-ghost use Rattle.config.specs.declared.Ttl.the-variants.{None};
-ghost use Rattle.table.specs.Reads.{labelIn, liveFigures};
-ghost use Rattle.table.specs.Passes.{firstLabel};
+ghost use Rattle.table.specs.Table.{entriesFrom, recordsFrom};
+ghost use Rattle.table.specs.Reads.{labelIn};
 ghost use Rattle.table.specs.WellFormed.{wellFormed};
-ghost use Rattle.cache_model.specs.Removal.{evictions};
 ghost use Rattle.pending_flows.specs.Header.{figuresAt};
-ghost use Rattle.pending_flows.specs.View.{cacheOf};
-ghost use Rattle.offer_plan.specs.Plan.{liveTest, liveSums, liveIn, CountRight};
+ghost use Rattle.offer_plan.specs.Plan.{liveSums, liveIn, CountRight};
 ghost use Rattle.offer_plan.specs.Plan.{LiveRead, othersFill, firstEvicted, firstOfFull, Decides, NothingGoes};
 ghost use Rattle.offer_plan.specs.Plan.{skipOf, Plans};
+use super::evictions::evictions_for;
+use super::live_tests::live_test;
 use config::PendingFlowsConfig;
 use config::RECORD_WORDS;
 use config::Ttl;
 use pending_flows::HeaderFigures;
 use table::LABELS;
-use table::LiveFigures;
 use table::RecordFound;
 use table::count_in;
 use table::first_label;
 use table::label_for;
 use table::live_count;
-use table::live_figures;
 use table::record_of;
 use table::records_at;
-use table_entries::StayTest;
 use table_entries::sums_by_label;
-use table_records::evictions_of;
 use table_records::first_live;
 use table_records::live_records;
 use table_records::set_sum;
@@ -62,19 +56,6 @@ struct Decision {
     first: u64,
 }
 
-// The test by which bodies that are not expired stay.
-fn live_test(ttl: Ttl, clock: u64) -> StayTest
-    ensures { λ r. ⌜ r ≡ liveTest ttl clock ⌝ }
-{
-    StayTest {
-        ttl,
-        clock,
-        all: true,
-        label: LABELS as u64,
-        max_size: 18446744073709551615,
-    }
-}
-
 // How many live bodies the record that was found has. With no time to live none is expired, and its count says how
 // many.
 fn live_in(words: &[u64], entries: usize, ttl: Ttl, clock: u64, found: RecordFound) -> usize
@@ -99,82 +80,6 @@ fn others_fill(found: RecordFound, records: usize, most: usize) -> bool
         RecordFound::At(_) => most < records,
         RecordFound::Nothing => most <= records,
     }
-}
-
-// How many bodies and bytes the first record has, expired ones too: they go after step 2.
-fn first_figures(words: &[u64], entries: usize, from: usize, records: usize) -> LiveFigures
-    requires { ⌜ entriesAt + entryWords * entries ≤ length (now words) ⌝ }
-    requires { ⌜ from + recordWords * records ≤ length (now words) ⌝ }
-    ensures { λ r.
-        ⌜ r ≡ liveFigures None 0 (firstLabel (recordsFrom (now (words .entry)) from records)) (entriesFrom
-        (now (words .entry)) entriesAt entries) ⌝ }
-{
-    let label = first_label(words, from, records);
-    let no_ttl = Ttl::None;
-    live_figures(words, entries, label, no_ttl, 0)
-}
-
-// How many least recent templates go until a body of this length fits, by the bytes of each label.
-fn evictions_by_sizes(
-    words: &[u64],
-    bytes: &[u8],
-    limits: PendingFlowsConfig,
-    figures: HeaderFigures,
-    len: usize,
-) -> usize
-    requires { ⌜ (wellFormed (now words) (length (now bytes)) ≡ true) × (limits ≡ limitsOf (now words)) ⌝ }
-    requires { ⌜ (figures ≡ figuresAt (now words)) × (len ≤ limits .«max_total_bytes») ⌝ }
-    ensures { λ r.
-        ⌜ r ≡ evictions (limits .«max_total_bytes») len (cacheOf (tableOf (now (words .entry))) (now (bytes .entry))
-        .held) ⌝ }
-{
-    let room = (limits.max_total_bytes - len) as u64;
-    // expired bodies count: they go after this step, and with no time to live none is expired
-    let ttl = Ttl::None;
-    let mut sizes = [0u32; LABELS];
-    sums_by_label(
-        words,
-        figures.entries as usize,
-        live_test(ttl, 0),
-        true,
-        &mut sizes,
-    );
-    evictions_of(
-        words,
-        records_at(limits),
-        figures.templates as usize,
-        room,
-        figures.total,
-        &sizes,
-    )
-}
-
-// Step 2: how many least recent templates go until a body of this length fits. Mostly that is none or one, and then
-// no array is needed.
-fn evictions_for(
-    words: &[u64],
-    bytes: &[u8],
-    limits: PendingFlowsConfig,
-    figures: HeaderFigures,
-    len: usize,
-) -> usize
-    requires { ⌜ (wellFormed (now words) (length (now bytes)) ≡ true) × (limits ≡ limitsOf (now words)) ⌝ }
-    requires { ⌜ (figures ≡ figuresAt (now words)) × (len ≤ limits .«max_total_bytes») ⌝ }
-    ensures { λ r.
-        ⌜ r ≡ evictions (limits .«max_total_bytes») len (cacheOf (tableOf (now (words .entry))) (now (bytes .entry))
-        .held) ⌝ }
-{
-    let room = (limits.max_total_bytes - len) as u64;
-    if figures.total <= room {
-        return 0;
-    }
-    let entries = figures.entries as usize;
-    let held = figures.templates as usize;
-    let first = first_figures(words, entries, records_at(limits), held);
-    if figures.total - first.bytes <= room {
-        return 1;
-    }
-    evictions_by_sizes(words, bytes, limits, figures, len)
 }
 
 // The label of the least recent template with live bodies, where those templates are as many as there may be; else

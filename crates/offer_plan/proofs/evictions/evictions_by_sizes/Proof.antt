@@ -1,7 +1,7 @@
 use Rattle.offer_plan.proofs.Steps.{entries-within, bodies-few, records-within, room-made}
 use borrow.Author.Needs.{needs}
-use Rattle.offer_plan.proofs.plan.evictions_by_sizes.Statement.{statement}
-use Rattle.offer_plan.proofs.plan.evictions_by_sizes.Tie as tie
+use Rattle.offer_plan.proofs.evictions.evictions_by_sizes.Statement.{statement}
+use Rattle.offer_plan.proofs.evictions.evictions_by_sizes.Tie as tie
 
 sub-room : tie.Need-sub-room
 sub-room c = search needs

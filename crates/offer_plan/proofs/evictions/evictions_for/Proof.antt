@@ -1,8 +1,7 @@
-use Rattle.offer_plan.proofs.Steps.{entries-within, bodies-few, records-within, room-already}
-use Rattle.offer_plan.proofs.Steps.{first-within, one-makes-room}
+use Rattle.offer_plan.proofs.Steps.{entries-within, bodies-few, records-within, room-already, one-makes-room}
 use borrow.Author.Needs.{needs}
-use Rattle.offer_plan.proofs.plan.evictions_for.Statement.{statement}
-use Rattle.offer_plan.proofs.plan.evictions_for.Tie as tie
+use Rattle.offer_plan.proofs.evictions.evictions_for.Statement.{statement}
+use Rattle.offer_plan.proofs.evictions.evictions_for.Tie as tie
 
 sub-room : tie.Need-sub-room
 sub-room c = search needs
@@ -13,11 +12,11 @@ returns c = search (room-already, needs)
 records-at-requires : tie.Need-records-at-requires
 records-at-requires c κs = search (bodies-few, needs)
 
-first-figures-requires : tie.Need-first-figures-requires
-first-figures-requires c κs = search (entries-within, records-within, needs)
+sub-first-reaches : tie.Need-sub-first-reaches
+sub-first-reaches c = search needs
 
-sub-if2 : tie.Need-sub-if2
-sub-if2 c = search (first-within, needs)
+first-reaches-requires : tie.Need-first-reaches-requires
+first-reaches-requires c κs = search (entries-within, records-within, needs)
 
 returns-2 : tie.Need-returns-2
 returns-2 c = search (one-makes-room, needs)
@@ -35,8 +34,8 @@ evictions-for-spec =
     sub-room
     returns
     records-at-requires
-    first-figures-requires
-    sub-if2
+    sub-first-reaches
+    first-reaches-requires
     returns-2
     evictions-by-sizes-requires
     returns-3)
