@@ -11,6 +11,7 @@ use lib.Seq.{paste, paste-zero, paste-suc, take-paste, take-add, drop-drop}
 use borrow.Rule.Slice.PartMut.{midOf}
 use Rattle.areas.specs.Overwrite.{overwritten, putAt, moved}
 use Rattle.areas.proofs.Puts.{drop-more, length-part, length-put, put-there, take-put, drop-put}
+use Rattle.areas.proofs.Puts.{overwritten-whole}
 
 first-of-drop : (j : ℕ) (l : List ℕ) → getD (drop j l) 0 0 ≡ getD l j 0
 first-of-drop j l = rw (getD-drop, add-zero)
@@ -121,9 +122,21 @@ module _ (from to len : ℕ) (area zeros block : List ℕ) (source : from + len 
       let all : from + len - from ≡ len = omega arith in
       rw (read, all) (take-at (take len (drop from area)) _ len (length-part from len area source))
 
+  part-moved : (ys area′ : List ℕ) → ys ≡ take len (drop from area) → area′ ≡ putAt to ys area →
+      area′ ≡ moved from to len area
+  part-moved ys area′ holds written =
+      written ∙ ap (λ (zs : List ℕ). putAt to zs area) holds ∙ sym (moved-puts from to len area source)
+
   pub block-moved : (area′ : List ℕ) → area′ ≡ putAt to (take len block) area → area′ ≡ moved from to len area
-  block-moved area′ written =
-      written ∙ ap (λ (ys : List ℕ). putAt to ys area) block-holds ∙ sym (moved-puts from to len area source)
+  block-moved area′ written = part-moved (take len block) area′ block-holds written
+
+  -- the same through an array of that length
+  pub whole-moved : length zeros ≡ len → (area′ : List ℕ) → area′ ≡ putAt to block area → area′ ≡ moved from to len area
+  whole-moved long area′ written =
+      let all : from + len - from ≡ len = omega arith in
+      let part = take len (drop from area) in
+      part-moved block area′
+      (read ∙ rw all (overwritten-whole zeros part (long ∙ sym (length-part from len area source)))) written
 
 -- The loop from the front: the first `done` elements are moved.
 pub record MovedDown (area₀ : List ℕ) (from to len : ℕ) (area : List ℕ) (done : ℕ) : Type 0 where

@@ -2,7 +2,10 @@
 ghost use mathlib.Core.Path.{_≡_};
 ghost use Prim.Native.Nat.{_+_, _≤_};
 ghost use lib.ListN.{length};
-ghost use Rattle.areas.specs.Overwrite.{moved, overwritten};
+ghost use Rattle.areas.specs.Overwrite.{moved, overwritten, putAt};
+
+// How many words `move_four` reads before it writes the first.
+const FOUR: usize = 4;
 
 // Copies all of `from` to the front of `to`.
 pub fn copy_words(to: &mut [u64], from: &[u64])
@@ -14,6 +17,27 @@ pub fn copy_words(to: &mut [u64], from: &[u64])
         to[i] = from[i];
         i += 1;
     }
+}
+
+// Writes words from a place on: into the part of the area that begins there.
+fn write_words(area: &mut [u64], at: usize, from: &[u64])
+    requires { ⌜ at + length (now from) ≤ length (now area) ⌝ }
+    ensures { λ _. ⌜ now (area .exit) ≡ putAt at (now (from .entry)) (now (area .entry)) ⌝ }
+{
+    let end = at + from.len();
+    copy_words(&mut area[at..end], from);
+}
+
+// Moves four words. All are read before the first is written, so source and target may overlap; and the compiler makes
+// two loads and two stores of 16 bytes of both copies, with no array (docs/DECISIONS.md).
+pub fn move_four(area: &mut [u64], from: usize, to: usize)
+    requires { ⌜ (from + 4 ≤ length (now area)) × (to + 4 ≤ length (now area)) ⌝ }
+    ensures { λ _. ⌜ now (area .exit) ≡ moved from to 4 (now (area .entry)) ⌝ }
+{
+    let mut four: [u64; FOUR] = [0; FOUR];
+    let end = from + FOUR;
+    copy_words(&mut four, &area[from..end]);
+    write_words(area, to, &four);
 }
 
 // Moves to a lower place, or to the same one: from the front, so that an element is read before it is overwritten.

@@ -13,7 +13,7 @@ use std::num::wrapping_add_u64;
 use table::entry_at;
 use table_entries::Kept;
 use table_entries::StayTest;
-use table_entries::put_entry;
+use table_entries::move_entry;
 use table_entries::stays;
 
 // Keeps of the entries those that stay by themselves, in order.
@@ -31,7 +31,7 @@ pub fn sweep_staying(words: &mut [u64], entries: usize, test: StayTest) -> Kept
     while left > 0 {
         let entry = entry_at(words, from);
         if stays(test, entry) {
-            put_entry(words, to, entry);
+            move_entry(words, from, to);
             kept += 1;
             bytes = wrapping_add_u64(bytes, entry.len);
             to += ENTRY_WORDS;

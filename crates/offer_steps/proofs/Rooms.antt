@@ -2,7 +2,7 @@
 use mathlib.Core.Path.{_≡_, refl, ap, _∙_}
 use mathlib.Core.Bool.{Bool, true, false, cond}
 use mathlib.Core.List.{List, [], _∷_}
-use Prim.Native.Nat.{ℕ, _+_, _*_, _^_, _≤_, _<_}
+use Prim.Native.Nat.{ℕ, _+_, _*_, _≤_, _<_}
 use native.Mathlib.Omega.{arith}
 use lib.ListN.{length, drop}
 use borrow.Author.Tests.{leb-true, le-leb, lt-leb}
@@ -17,25 +17,16 @@ use Rattle.table.proofs.Labels.{labelsOf}
 use Rattle.table_entries.specs.Sums.{lensSum}
 use Rattle.table_entries.specs.Pack.{lastEnd, packedEntries, packedEnd, packedBytes, Packs}
 use Rattle.table_entries.specs.Sweep.{putEntry}
-use Rattle.table_entries.proofs.Lengths.{placed-wider, first-end-within, last-within}
+use Rattle.table_entries.proofs.Lengths.{placed-wider, first-end-within}
 use Rattle.table_entries.proofs.Frames.{entries-below, entries-more, take-put, drop-put, entry-put}
 use Rattle.table_entries.proofs.Packed.{packed-placed, lens-packed}
 use Rattle.pending_flows.specs.View.{bodiesAt}
 use Rattle.table_view.proofs.Packed.{packed-long, packed-bodies, packed-drop}
 use Rattle.offer_steps.specs.Room.{fitsBehind, roomEntries, roomBytes, roomPlace, MakesRoom, StoresBody}
 
-module _ (most : ℕ) (es : List Entry) (legal : placesLegal 0 most es ≡ true) where
-  last-legal : lastEnd es ≤ most
-  last-legal = last-within 0 most es (places-say 0 most es legal)
-
-  pub last-small : most ≤ 67108864 → lastEnd es ≤ 18446744073709551615
-  last-small small = omega (arith, last-legal)
-
-  pub end-fits : (end len : ℕ) → most ≤ 67108864 → end ≡ lastEnd es → len ≤ most → end + len < 2 ^ 64
-  end-fits end len small is short = omega (arith, last-legal)
-
-  pub legal-wider : (n : ℕ) → most ≤ n → placesLegal 0 n es ≡ true
-  legal-wider n room = places-hold 0 n es (placed-wider 0 most n es room (places-say 0 most es legal))
+pub legal-wider : (most : ℕ) (es : List Entry) → placesLegal 0 most es ≡ true → (n : ℕ) → most ≤ n →
+    placesLegal 0 n es ≡ true
+legal-wider most es legal n room = places-hold 0 n es (placed-wider 0 most n es room (places-say 0 most es legal))
 
 module _ (m len most : ℕ) (w b : List ℕ) where
   pub room-behind : (end : ℕ) → end ≡ lastEnd (entriesFrom w entriesAt m) → end + len ≤ most →

@@ -15,11 +15,10 @@ use Rattle.table.specs.Layout.{entriesAt}
 use Rattle.table.specs.Table.{entriesFrom, recordsFrom}
 use Rattle.table.specs.WellFormed.{placesLegal}
 use Rattle.table.proofs.Words.{length-records}
-use Rattle.table.proofs.Facts.{places-say}
 use Rattle.table_entries.specs.declared.StayTest.{StayTest}
 use Rattle.table_entries.specs.Sums.{lensSum, summed}
 use Rattle.table_entries.specs.Pack.{lastEnd, Packs}
-use Rattle.table_entries.proofs.Lengths.{last-within}
+use Rattle.table_entries.proofs.Ends.{last-legal}
 use Rattle.table_records.specs.Choose.{skipping, skippingOver, evictionsOf}
 use Rattle.table_records.proofs.Skips.{length-skipping, length-skipping-over}
 use Rattle.pending_flows.proofs.Questions.{first-records}
@@ -110,7 +109,7 @@ pub removed-as : {q q₀ : StayTest} {p k m : ℕ} {skip skip₀ w w′ : List �
 removed-as tested chosen h = rw (← tested, ← chosen) h
 
 pub ends-within : (n most : ℕ) (es : List Entry) → placesLegal 0 n es ≡ true → n ≤ most → lastEnd es ≤ most
-ends-within n most es t h = omega (arith, last-within 0 n es (places-say 0 n es t))
+ends-within n most es t h = omega (arith, last-legal n es t)
 
 module _ (room : ℕ) (w b : List ℕ) (m : ℕ) {end : ℕ} (ends : end ≡ lastEnd (entriesFrom w entriesAt m)) where
   pub places-fit : end ≤ room → FitsPlaces room m w b w b

@@ -1,5 +1,6 @@
 -- Where the last body ends. Assumes nothing.
 use mathlib.Core.Path.{_≡_, sym, ap, _∙_}
+use mathlib.Core.Bool.{true}
 use mathlib.Core.List.{List}
 use Prim.Native.Nat.{ℕ, zero, suc, _+_, _*_, _-_, _^_, _≤_, _<_}
 use native.Mathlib.Omega.{arith}
@@ -7,7 +8,10 @@ use Rattle.config.specs.Limits.{entryWords}
 use Rattle.table.specs.declared.Entry.{Entry}
 use Rattle.table.specs.Layout.{entriesAt}
 use Rattle.table.specs.Table.{entryAt, entriesFrom}
+use Rattle.table.specs.WellFormed.{placesLegal}
+use Rattle.table.proofs.Facts.{places-say}
 use Rattle.table_entries.specs.Pack.{lastEnd}
+use Rattle.table_entries.proofs.Lengths.{last-within}
 
 ends : Entry → ℕ
 ends e = e .place + e .len
@@ -33,3 +37,14 @@ module _ (w : List ℕ) (entries : ℕ) where
 
     pub last-fits : lastEnd (entriesFrom w entriesAt entries) ≤ 18446744073709551615 → e .place + e .len < 2 ^ 64
     last-fits few = omega (arith, last-end)
+
+-- of bodies within `most`: no sum overflows, as no area has more than 67,108,864 bytes
+module _ (most : ℕ) (es : List Entry) (legal : placesLegal 0 most es ≡ true) where
+  pub last-legal : lastEnd es ≤ most
+  last-legal = last-within 0 most es (places-say 0 most es legal)
+
+  pub last-small : most ≤ 67108864 → lastEnd es ≤ 18446744073709551615
+  last-small small = omega (arith, last-legal)
+
+  pub end-fits : (end len : ℕ) → most ≤ 67108864 → end ≡ lastEnd es → len ≤ most → end + len < 2 ^ 64
+  end-fits end len small is short = omega (arith, last-legal)

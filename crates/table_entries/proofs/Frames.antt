@@ -36,6 +36,9 @@ entries-same w w′ p (suc k) f =
       entries-same w w′ (p + entryWords) k (λ i a b. f i (omega arith) (omega arith)),
     )
 
+pub entry-below : (w w′ : List ℕ) (p n : ℕ) → p + entryWords ≤ n → take n w ≡ take n w′ → entryAt w p ≡ entryAt w′ p
+entry-below w w′ p n h e = entry-same w w′ p (λ i a b. word-below w w′ n e i (omega arith))
+
 pub entries-below : (w w′ : List ℕ) (p k n : ℕ) → p + entryWords * k ≤ n → take n w ≡ take n w′ →
     entriesFrom w p k ≡ entriesFrom w′ p k
 entries-below w w′ p k n h e = entries-same w w′ p k (λ i a b. word-below w w′ n e i (omega arith))

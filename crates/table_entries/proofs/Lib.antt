@@ -7,5 +7,7 @@ pub mod KeepPass
 pub mod SweepPass
 pub mod Swept
 pub mod Ends
+pub mod EntriesPut
 pub mod Packed
+pub mod PackAll
 pub mod PackPass

@@ -5,12 +5,13 @@ use mathlib.Core.List.{List, [], _∷_}
 use Prim.Native.Nat.{ℕ, suc, _+_, _≤_}
 use native.Mathlib.Omega.{arith}
 use lib.Dec.{eqb}
+use lib.ListN.{length}
 use Rattle.config.proofs.Lists.{All}
 use Rattle.table.specs.declared.Entry.{Entry}
 use Rattle.table.specs.Table.{tally}
 use Rattle.table.proofs.Facts.{Placed}
 use Rattle.table_entries.specs.Sums.{lensSum}
-use Rattle.table_entries.specs.Pack.{packedEntries, packedEnd}
+use Rattle.table_entries.specs.Pack.{lastEnd, packedEntries, packedEnd}
 
 -- an entry with another place
 abbrev pub placedAt : ℕ → Entry → Entry
@@ -46,3 +47,21 @@ unfolding packedEntries
 tally-packed k at [] = refl
 tally-packed k at (e ∷ es) =
     ap (λ (n : ℕ). cond (eqb k (e .label)) (suc n) n) (tally-packed k (at + e .len) es)
+
+pub length-packed : (at : ℕ) (es : List Entry) → length (packedEntries at es) ≡ length es
+unfolding packedEntries
+length-packed at [] = refl
+length-packed at (e ∷ es) = ap (λ (n : ℕ). suc n) (length-packed (at + e .len) es)
+
+-- packed bodies end where the last one does, and packed once more they end there too
+pub last-packed : (es : List Entry) → lastEnd (packedEntries 0 es) ≡ packedEnd 0 es
+unfolding lastEnd packedEntries packedEnd
+last-packed [] = refl
+last-packed (e ∷ es) = some 0 e es
+  where
+    some : (at : ℕ) (e : Entry) (es : List Entry) → lastEnd (packedEntries at (e ∷ es)) ≡ packedEnd at (e ∷ es)
+    some at e [] = refl
+    some at e (x ∷ es) = some (at + e .len) x es
+
+pub packed-again : (es : List Entry) → packedEnd 0 (packedEntries 0 es) ≡ packedEnd 0 es
+packed-again es = omega (arith, packed-end 0 (packedEntries 0 es), packed-end 0 es, lens-packed 0 es)

@@ -45,10 +45,16 @@ pub record ReachesTo (place : ℕ) (run : Run) (b b′ : List ℕ) (r : Run) : T
   pub bytes : moved (r .from) (r .to) (r .len) b′ ≡ moved (run .from) (run .to) (run .len) b
   pub length-same : length b′ ≡ length b
 
--- the first m entries and their bodies are packed, up to r; no other word changes
-pub record Packs (m : ℕ) (w b w′ b′ : List ℕ) (r : ℕ) : Type 0 where
-  pub entries : entriesFrom w′ entriesAt m ≡ packedEntries 0 (entriesFrom w entriesAt m)
-  pub bytes : b′ ≡ packedBytes 0 (entriesFrom w entriesAt m) b
-  pub end : r ≡ packedEnd 0 (entriesFrom w entriesAt m)
+-- of the first m entries n are kept, these (`kept`), in this order, and packed with their bodies, up to r; no word
+-- before or behind the m entries changes
+pub record KeepsPacked (kept : List Entry) (m : ℕ) (w b w′ b′ : List ℕ) (n r : ℕ) : Type 0 where
+  pub few : n ≤ m
+  pub entries : entriesFrom w′ entriesAt n ≡ packedEntries 0 kept
+  pub bytes : b′ ≡ packedBytes 0 kept b
+  pub end : r ≡ packedEnd 0 kept
   pub head : take entriesAt w′ ≡ take entriesAt w
   pub tail : drop (entriesAt + entryWords * m) w′ ≡ drop (entriesAt + entryWords * m) w
+
+-- all of the first m entries are kept
+abbrev pub Packs : ℕ → List ℕ → List ℕ → List ℕ → List ℕ → ℕ → Type 0
+Packs m w b w′ b′ r = KeepsPacked (entriesFrom w entriesAt m) m w b w′ b′ m r

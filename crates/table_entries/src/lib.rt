@@ -5,11 +5,15 @@ mod sums;
 mod sweeps;
 
 use config::Ttl;
+pub use pack::Run;
 pub use pack::last_end;
+pub use pack::move_run;
 pub use pack::pack_bodies;
+pub use pack::run_up_to;
 pub use stay::stays;
 pub use sums::sums_by_label;
 pub use sweeps::Kept;
+pub use sweeps::move_entry;
 pub use sweeps::put_entry;
 pub use sweeps::sweep;
 

@@ -30,14 +30,14 @@ pub fn last_end(words: &[u64], entries: usize) -> u64
 }
 
 // Bodies that lie side by side and move together: where they begin, where they go, and their length.
-struct Run {
-    from: usize,
-    to: usize,
-    len: usize,
+pub struct Run {
+    pub from: usize,
+    pub to: usize,
+    pub len: usize,
 }
 
 // Moves a run; answers where it ends then.
-fn move_run(bytes: &mut [u8], run: Run) -> usize
+pub fn move_run(bytes: &mut [u8], run: Run) -> usize
     requires { ⌜ (run .to ≤ run .from) × (run .from + run .len ≤ length (now bytes)) ⌝ }
     ensures { λ r. ⌜ MovesRun run (now (bytes .entry)) (now (bytes .exit)) r ⌝ }
 {
@@ -46,7 +46,7 @@ fn move_run(bytes: &mut [u8], run: Run) -> usize
 }
 
 // The run that a body at this place goes on with. Where it lies apart, the run is moved and the next one begins.
-fn run_up_to(bytes: &mut [u8], run: Run, place: usize) -> Run
+pub fn run_up_to(bytes: &mut [u8], run: Run, place: usize) -> Run
     requires { ⌜ (run .to ≤ run .from) × (run .from + run .len ≤ place) ⌝ }
     requires { ⌜ place ≤ length (now bytes) ⌝ }
     ensures { λ r. ⌜ ReachesTo place run (now (bytes .entry)) (now (bytes .exit)) r ⌝ }

@@ -4,10 +4,11 @@ ghost use Prim.Native.Nat.{_+_, _*_, _≤_};
 ghost use lib.ListN.{length};
 ghost use Rattle.config.specs.Limits.{entryWords};
 ghost use Rattle.table.specs.Layout.{entriesAt};
-ghost use Rattle.table.specs.Table.{entriesFrom};
+ghost use Rattle.table.specs.Table.{entryAt, entriesFrom};
 ghost use Rattle.table_entries.specs.Sweep.{swept, Spends, putEntry, KeepsOnly};
 use super::StayTest;
 use super::stay::stays;
+use areas::move_four;
 use config::ENTRY_WORDS;
 use config::HEADER_WORDS;
 use std::num::wrapping_add_u64;
@@ -49,6 +50,15 @@ pub fn put_entry(words: &mut [u64], p: usize, entry: Entry)
     words[p + 3] = entry.clock;
 }
 
+// Moves an entry's four words.
+pub fn move_entry(words: &mut [u64], from: usize, to: usize)
+    requires { ⌜ (from + entryWords ≤ length (now words)) × (to + entryWords ≤ length (now words)) ⌝ }
+    ensures { λ _.
+        ⌜ now (words .exit) ≡ putEntry (now (words .entry)) to (entryAt (now (words .entry)) from) ⌝ }
+{
+    move_four(words, from, to);
+}
+
 // Keeps of the entries those that stay and are not skipped, in order.
 pub fn sweep(words: &mut [u64], entries: usize, test: StayTest, skip: &mut [u32; LABELS]) -> Kept
     requires { ⌜ (entriesAt + entryWords * entries ≤ length (now words)) × (length (now skip) ≡ 1024) ⌝ }
@@ -65,7 +75,7 @@ pub fn sweep(words: &mut [u64], entries: usize, test: StayTest, skip: &mut [u32;
         let entry = entry_at(words, from);
         if stays(test, entry) {
             if !spend(skip, entry.label) {
-                put_entry(words, to, entry);
+                move_entry(words, from, to);
                 kept += 1;
                 bytes = wrapping_add_u64(bytes, entry.len);
                 to += ENTRY_WORDS;

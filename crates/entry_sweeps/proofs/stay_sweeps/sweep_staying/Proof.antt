@@ -1,9 +1,10 @@
-use mathlib.Core.Path.{_∙_}
+use mathlib.Core.Path.{sym, ap, _∙_}
 use mathlib.Core.Logic.{⊎-elim}
 use borrow.Author.Needs.{needs}
 use Rattle.table.specs.Layout.{entriesAt}
 use Rattle.table.specs.Table.{entriesFrom}
 use Rattle.table_entries.specs.Stays.{stays}
+use Rattle.table_entries.specs.Sweep.{putEntry}
 use Rattle.table_entries.proofs.KeepPass.{KeptSoFar, none-kept, none-left, entry-left-out, entry-kept}
 use Rattle.entry_sweeps.specs.KeptBy.{keptBy}
 use Rattle.entry_sweeps.proofs.KeptBy.{none-kept-by, first-goes, first-kept}
@@ -27,8 +28,8 @@ entry-at-requires c κs = search needs
 stays-requires : tie.Need-stays-requires Inv-loop μ-loop
 stays-requires c κs = search needs
 
-put-entry-requires : tie.Need-put-entry-requires Inv-loop μ-loop
-put-entry-requires c κs = search needs
+move-entry-requires : tie.Need-move-entry-requires Inv-loop μ-loop
+move-entry-requires c κs = search needs
 
 add-kept : tie.Need-add-kept Inv-loop μ-loop
 add-kept c = search needs
@@ -51,7 +52,8 @@ loop-less c = search needs
 loop-again : tie.Need-loop-again Inv-loop μ-loop
 loop-again c =
     ⊎-elim
-    (λ v. rw (v .6 ∙ v .2 .ensures, v .7, v .8, v .9) (search (entry-kept, first-kept, needs)))
+    (λ v. rw (v .6 ∙ v .2 .ensures ∙ ap (putEntry _ _) (sym (c .before .before .entry-at .ensures)), v .7, v .8, v .9)
+    (search (entry-kept, first-kept, needs)))
     (λ v. rw (v .1, v .2, v .3, v .4) (search (entry-left-out, first-goes, needs)))
     (c .if1 .came)
 
@@ -70,7 +72,7 @@ sweep-staying-spec =
     loop-holds
     entry-at-requires
     stays-requires
-    put-entry-requires
+    move-entry-requires
     add-kept
     wrapping-add-u64-requires
     add-to

@@ -1,5 +1,6 @@
 use borrow.Author.Needs.{needs}
-use Rattle.offer_steps.proofs.Rooms.{last-small, end-fits, legal-wider, room-behind, room-packed}
+use Rattle.table_entries.proofs.Ends.{last-small, end-fits}
+use Rattle.offer_steps.proofs.Rooms.{legal-wider, room-behind, room-packed}
 use Rattle.offer_steps.proofs.storing.make_room.Statement.{statement}
 use Rattle.offer_steps.proofs.storing.make_room.Tie as tie
 

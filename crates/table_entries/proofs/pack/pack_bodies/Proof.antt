@@ -1,5 +1,5 @@
 use borrow.Author.Needs.{needs}
-use Rattle.table_entries.proofs.PackPass.{EntriesPacked, none-packed, all-packed-up, entry-packed}
+use Rattle.table_entries.proofs.PackAll.{EntriesPacked, none-packed-yet, all-packed, next-packed}
 use Rattle.table_entries.proofs.PackPass.{run-before, place-within, new-place-fits, new-length-fits}
 use Rattle.table_entries.proofs.pack.pack_bodies.Statement.{statement}
 use Rattle.table_entries.proofs.pack.pack_bodies.Tie as tie
@@ -12,7 +12,7 @@ abbrev μ-loop : tie.MeasureT-loop
 μ-loop words₀ bytes₀ entries run₀ left₀ p₀ words bytes run left p = left
 
 loop-holds : tie.Need-loop-holds Inv-loop μ-loop
-loop-holds c = search (none-packed, needs)
+loop-holds c = search (none-packed-yet, needs)
 
 entry-at-requires : tie.Need-entry-at-requires Inv-loop μ-loop
 entry-at-requires c κs = search needs
@@ -45,7 +45,7 @@ loop-less : tie.Need-loop-less Inv-loop μ-loop
 loop-less c = search needs
 
 loop-again : tie.Need-loop-again Inv-loop μ-loop
-loop-again c = search (entry-packed, needs)
+loop-again c = search (next-packed, needs)
 
 move-run-requires : tie.Need-move-run-requires Inv-loop μ-loop
 move-run-requires c κs = search needs
@@ -57,7 +57,7 @@ same-length-2 : tie.Need-same-length-2 Inv-loop μ-loop
 same-length-2 c = search needs
 
 returns : tie.Need-returns Inv-loop μ-loop
-returns c = search (all-packed-up, needs)
+returns c = search (all-packed, needs)
 
 pub pack-bodies-spec : {M : Type 1} → statement M
 pack-bodies-spec =
