@@ -52,11 +52,13 @@ pub record SkipsWhole (skip : List ℕ) (rs : List TemplateRecord) : Type 0 wher
   pub long : length skip ≡ 1024
   pub whole : All (λ r. (0 < getD skip (r .label) 0 → r .count ≤ getD skip (r .label) 0)) rs
 
--- m entries are swept, and k records from word p on closed. The record of the label `apart` goes, its bodies stay.
-pub record Removes (q : StayTest) (p k m apart : ℕ) (skip w w′ : List ℕ) (r : Removed) : Type 0 where
+-- m entries are swept, and k records from word p on closed; the entries that stay are then `after`. The record of the
+-- label `apart` goes, its bodies stay.
+pub record RemovesTo (after : List Entry) (q : StayTest) (p k m apart : ℕ) (skip w w′ : List ℕ) (r : Removed)
+    : Type 0 where
   pub few-entries : r .entries ≤ m
   pub few-records : r .records ≤ k
-  pub entries : entriesFrom w′ entriesAt (r .entries) ≡ swept q skip (entriesFrom w entriesAt m)
+  pub entries : entriesFrom w′ entriesAt (r .entries) ≡ after
   pub bytes : r .bytes ≡ lensWord (swept q skip (entriesFrom w entriesAt m))
   pub bodies-apart : r .apart ≡ getD (counted (swept q skip (entriesFrom w entriesAt m))) apart 0
   pub records : recordsFrom w′ p (r .records)
@@ -67,7 +69,12 @@ pub record Removes (q : StayTest) (p k m apart : ℕ) (skip w w′ : List ℕ) (
   pub tail : drop (p + recordWords * k) w′ ≡ drop (p + recordWords * k) w
   pub long : length w′ ≡ length w
 
--- the same of a whole table: all its entries, and its records, the handed-out one too
+-- the same, with the entries that stay as they were
+abbrev pub Removes : StayTest → ℕ → ℕ → ℕ → ℕ → List ℕ → List ℕ → List ℕ → Removed → Type 0
+Removes q p k m apart skip w w′ r =
+    RemovesTo (swept q skip (entriesFrom w entriesAt m)) q p k m apart skip w w′ r
+
+-- this of a whole table: all its entries, and its records, the handed-out one too
 abbrev pub RemovesFrom : StayTest → ℕ → List ℕ → List ℕ → List ℕ → Removed → Type 0
 RemovesFrom q apart skip w w′ r =
     Removes q (recordsAt (limitsOf w)) (heldCount w + chanceCount w) (entryCount w) apart skip w w′ r

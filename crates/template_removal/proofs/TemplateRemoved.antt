@@ -26,6 +26,7 @@ use Rattle.table.proofs.Labels.{tally-most, absent-says, absent-holds, absent-t
 use Rattle.table_entries.specs.declared.StayTest.{StayTest}
 use Rattle.table_entries.specs.declared.sweeps.Kept.{Kept}
 use Rattle.table_entries.specs.Stays.{stays}
+use Rattle.table_entries.specs.Sums.{lensSum}
 use Rattle.table_entries.specs.Sweep.{swept, KeepsOnly}
 use Rattle.entry_sweeps.specs.KeptBy.{keptBy}
 use Rattle.entry_sweeps.proofs.KeptBy.{otherThan, zero-kept}
@@ -45,12 +46,14 @@ use Rattle.table_view.proofs.AllStay.{all-stay}
 use Rattle.table_view.proofs.Removed.{label-counts, none-set}
 use Rattle.table_view.proofs.Summed.{lenMost}
 use Rattle.table_view.proofs.Tied.{entries-small}
-use Rattle.pending_calls.specs.Removal.{everything, unexpired, counted, countedBut, Removes, RemovesFrom}
+use Rattle.pending_calls.specs.declared.removal.Removed.{Removed}
+use Rattle.pending_calls.specs.Removal.{everything, unexpired, counted, countedBut, RemovesTo, RemovesFrom}
 use Rattle.pending_calls.proofs.NoneRemoved.{entries-short}
-use Rattle.pending_calls.proofs.Removals.{removal-done, closed-apart}
+use Rattle.pending_calls.proofs.Removals.{removal-to, closed-apart}
 use Rattle.pending_calls.proofs.Removed.{TiedRows, rows-tied, few-templates, entries-below-records, records-within}
 use Rattle.table_promotion.specs.declared.taking.Taken.{Taken}
 use Rattle.table_promotion.specs.Taking.{TakesLabel}
+use Rattle.template_removal.specs.Taking.{TakesBoth}
 use Rattle.template_removal.proofs.ClosesTwice.{Emptied, index-between, closes-twice}
 use Rattle.template_removal.proofs.OthersStay.{none-of-own, all-of-others, label-swept}
 use Rattle.table_promotion.proofs.TakenLabels.{label-closes}
@@ -88,7 +91,7 @@ module _ (w : List ℕ) (n : ℕ) (ok : wellFormed w n ≡ true) (label apart : 
   few : length es ≤ skipAll
   few = omega (arith, length-entries w entriesAt (entryCount w), legal .entries-fit, legal .limits-legal .bodies-few)
 
-  swept-is : swept everything skip es ≡ stay
+  pub swept-is : swept everything skip es ≡ stay
   swept-is =
       label-swept label everything skipAll es
       (all-stay everything es refl
@@ -185,8 +188,10 @@ module _ (w : List ℕ) (n : ℕ) (ok : wellFormed w n ≡ true) (label apart : 
 
   -- ---- the steps
 
-  module _ {w₁ w₂ w₃ : List ℕ} {left : Kept} {a b : Taken} (s : KeepsOnly stay (entryCount w) w w₁ left)
-      (t : TakesLabel label p k w₁ w₂ a) (u : TakesLabel apart p (a .records) w₂ w₃ b) where
+  -- the entries that are left may be any list whose lengths add up to the same
+  module _ (after : List Entry) (lens : lensSum after ≡ lensSum stay) {w₁ w₂ w₃ : List ℕ} {left : Kept} {a b : Taken}
+      (s : KeepsOnly after (entryCount w) w w₁ left) (t : TakesLabel label p k w₁ w₂ a)
+      (u : TakesLabel apart p (a .records) w₂ w₃ b) where
     same-records : recordsFrom w₁ p k ≡ rs
     same-records =
         records-above w₁ w p k (entriesAt + entryWords * entryCount w) (entries-below-records w n legal) (s .tail)
@@ -260,27 +265,43 @@ module _ (w : List ℕ) (n : ℕ) (ok : wellFormed w n ≡ true) (label apart : 
             (omega (arith, length-records w₂ p (a .records))) in
             u .none past .2 ∙ none-left (rw records-left at absent)
 
-    removed-by : length w₃ ≡ length w →
-        Removes everything p k (entryCount w) apart skip w w₃
+    removed-to : length w₃ ≡ length w →
+        RemovesTo after everything p k (entryCount w) apart skip w w₃
         (record { entries = left .entries; bytes = left .bytes; records = b .records; apart = b .bodies })
-    removed-by long =
-        removal-done everything p k (entryCount w) apart skip w w₁ w₃ kept left
-        (record { entries = left .entries; bytes = left .bytes; records = b .records; apart = b .bodies })
-        (entries-below-records w n legal, records-within w n legal) (rw swept-is s) (ap counted (sym swept-is))
+    removed-to long =
+        removal-to everything p k (entryCount w) apart skip w w₁ w₃ kept left
+        (record { entries = left .entries; bytes = left .bytes; records = b .records; apart = b .bodies }) after
+        (entries-below-records w n legal, records-within w n legal) s (lens ∙ ap lensSum (sym swept-is))
+        (ap counted (sym swept-is))
         (closed-apart p k apart left kept w₁ w₃ bodies-told refl
         (closes-twice kept but emptied-swept few-records rises-swept own-closed apart-closed)) long
 
 -- with the limits and the figures that were read
-module _ (w : List ℕ) (n : ℕ) (ok : wellFormed w n ≡ true) (label apart : ℕ) {f : HeaderFigures}
-    {l : PendingFlowsConfig} {p : ℕ} (figures : f ≡ figuresAt w) (limits : l ≡ limitsOf w) (from : p ≡ recordsAt l)
-    {w₁ w₂ w₃ : List ℕ} {left : Kept} {q : StayTest} {a b : Taken} where
-  pub template-removed : q ≡ unexpired (After 0) 0 label →
-      KeepsOnly (keptBy (stays q) (entriesFrom w entriesAt (f .entries))) (f .entries) w w₁ left →
-      TakesLabel label p (f .templates + f .chance) w₁ w₂ a → TakesLabel apart p (a .records) w₂ w₃ b →
-      length w₃ ≡ length w →
-      RemovesFrom everything apart
-      (set (replicate 1024 0) label skipAll) w w₃
-      (record { entries = left .entries; bytes = left .bytes; records = b .records; apart = b .bodies })
-  template-removed test s t u long =
-      removed-by w n ok label apart (rw (test, figures, zero-kept 0 label lenMost _ (entries-short w n ok)) at s)
-      (rw (from, limits, figures) at t) (rw (from, limits) at u) long
+module _ (w : List ℕ) (n : ℕ) (ok : wellFormed w n ≡ true) (label apart : ℕ) {f : HeaderFigures} {q : StayTest}
+    (figures : f ≡ figuresAt w) (test : q ≡ unexpired (After 0) 0 label) where
+  -- the entries of the other labels
+  abbrev others : List Entry
+  others = keptBy (stays q) (entriesFrom w entriesAt (f .entries))
+
+  others-stay : others ≡ stay w n ok label apart
+  others-stay = rw (test, figures) (zero-kept 0 label lenMost (es w n ok label apart) (entries-short w n ok))
+
+  pub others-swept :
+      others ≡ swept everything (set (replicate 1024 0) label skipAll) (entriesFrom w entriesAt (entryCount w))
+  others-swept = others-stay ∙ sym (swept-is w n ok label apart)
+
+  module _ {l : PendingFlowsConfig} {p : ℕ} (limits : l ≡ limitsOf w) (from : p ≡ recordsAt l) {w₁ w₃ : List ℕ}
+      {left : Kept} {r : Removed} (t : TakesBoth label apart p (f .templates + f .chance) left w₁ w₃ r)
+      (long : length w₃ ≡ length w) where
+    pub others-removed : (after : List Entry) → lensSum after ≡ lensSum others →
+        KeepsOnly after (f .entries) w w₁ left →
+        RemovesTo after everything (recordsAt (limitsOf w)) (heldCount w + chanceCount w) (entryCount w) apart
+        (set (replicate 1024 0) label skipAll) w w₃ r
+    others-removed after lens s =
+        rw (t .told)
+        (removed-to w n ok label apart after (lens ∙ ap lensSum others-stay) (rw figures at s)
+        (rw (from, limits, figures) at (t .takes-first)) (rw (from, limits) at (t .takes-second)) long)
+
+    pub template-removed : KeepsOnly (keptBy (stays q) (entriesFrom w entriesAt (f .entries))) (f .entries) w w₁ left →
+        RemovesFrom everything apart (set (replicate 1024 0) label skipAll) w w₃ r
+    template-removed s = rw (← others-swept) (others-removed others refl s)

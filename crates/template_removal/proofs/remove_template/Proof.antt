@@ -3,7 +3,6 @@ use native.Mathlib.Omega.{arith}
 use borrow.Author.Needs.{needs}
 use Rattle.pending_flows.proofs.Questions.{bodies-few}
 use Rattle.pending_calls.proofs.NoneRemoved.{records-fit, entries-below, records-inside}
-use Rattle.table_promotion.proofs.TakenLabels.{taken-few}
 use Rattle.template_removal.proofs.TemplateRemoved.{template-removed}
 use Rattle.template_removal.proofs.remove_template.Statement.{statement}
 use Rattle.template_removal.proofs.remove_template.Tie as tie
@@ -18,7 +17,7 @@ read-of tested = tested .before .before
 abbrev tested-of : tie.After-sweep-staying → tie.After-label-test
 tested-of swept = swept .before .before
 
-abbrev swept-of : tie.After-take-record → tie.After-sweep-staying
+abbrev swept-of : tie.After-take-both → tie.After-sweep-staying
 swept-of taken = taken .before .before .before .before
 
 records-at-requires : tie.Need-records-at-requires
@@ -41,8 +40,8 @@ sweep-staying-requires c κs =
     (read .records-at .ensures) in
     omega (arith, below, inside)
 
-take-record-requires : tie.Need-take-record-requires
-take-record-requires c κs =
+take-both-requires : tie.Need-take-both-requires
+take-both-requires c κs =
     let swept : tie.After-sweep-staying = c .before .before .before in
     let read = read-of (tested-of swept) in
     let start = start-of read in
@@ -50,37 +49,19 @@ take-record-requires c κs =
     (read .records-at .ensures) in
     omega (arith, inside, swept .sweep-staying .kept .0)
 
-take-record-requires-2 : tie.Need-take-record-requires-2
-take-record-requires-2 c κs =
-    let taken : tie.After-take-record = c .before .before .before in
-    let swept = swept-of taken in
-    let read = read-of (tested-of swept) in
-    let start = start-of read in
-    let inside = records-inside _ _ (start .pre .0 .0) _ (start .pre .1) _ (start .pre .0 .1) _
-    (read .records-at .ensures) in
-    omega (
-      arith,
-      inside,
-      swept .sweep-staying .kept .0,
-      taken .take-record .kept .0,
-      taken-few _ _ _ _ (taken .take-record .ensures),
-    )
-
 same-length : tie.Need-same-length
 same-length c = search needs
 
 returns : tie.Need-returns
 returns c =
-    let last : tie.After-take-record2 = c .before .before in
-    let taken : tie.After-take-record = last .before .before .before .before in
+    let taken : tie.After-take-both = c .before .before in
     let swept = swept-of taken in
     let tested = tested-of swept in
     let read = read-of tested in
     let start = start-of read in
-    template-removed _ _ (start .pre .0 .0) _ _ (start .pre .1) (start .pre .0 .1) (read .records-at .ensures)
-    (tested .label-test .ensures) (swept .sweep-staying .ensures) (taken .take-record .ensures)
-    (last .take-record2 .ensures)
-    (last .take-record2 .kept .0 ∙ taken .take-record .kept .0 ∙ swept .sweep-staying .kept .0)
+    template-removed _ _ (start .pre .0 .0) _ _ (start .pre .1) (tested .label-test .ensures) (start .pre .0 .1)
+    (read .records-at .ensures) (taken .take-both .ensures)
+    (taken .take-both .kept .0 ∙ swept .sweep-staying .kept .0) (swept .sweep-staying .ensures)
 
 pub remove-template-spec : {M : Type 1} → statement M
 remove-template-spec =
@@ -90,7 +71,6 @@ remove-template-spec =
     add-records
     label-test-requires
     sweep-staying-requires
-    take-record-requires
-    take-record-requires-2
+    take-both-requires
     same-length
     returns)
