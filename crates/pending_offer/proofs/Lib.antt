@@ -7,3 +7,4 @@ pub mod Accepted
 pub mod Accepts
 pub mod Refused
 pub mod Offered
+pub mod ForBody

@@ -21,6 +21,7 @@ use offer_steps::choose_label;
 use offer_steps::count_drop;
 use offer_steps::held_bodies;
 use offer_steps::settle;
+use packed_removal::remove_for_body;
 use pending_flows::HeaderFigures;
 use pending_flows::figures_at;
 use planned_removal::remove_planned;
@@ -65,7 +66,7 @@ fn accept(
         (areasOf (now (words .exit)) (now (bytes .exit))) ⌝ }
 {
     let held = held_bodies(words, bytes, limits, figures);
-    let left = remove_planned(words, bytes, limits, figures, plan, clock, plan.label);
+    let left = remove_for_body(words, bytes, limits, figures, plan, clock, body.len());
     let label = choose_label(words, limits, left.records, plan.label);
     add_body(words, bytes, limits, left, label, id, body, clock);
     let drops = held - (left.entries as u64);

@@ -75,7 +75,7 @@ fn remove_skipped(
 
 // With no time to live and nothing handed out: the label of the one template that goes, where no other does; else what
 // is no label.
-fn alone_label(
+pub fn alone_label(
     words: &[u64],
     bytes: &[u8],
     limits: PendingFlowsConfig,
