@@ -231,7 +231,8 @@ impl Comparison {
         {
             return Err(format!("expected {state:?} with {limits:?}, the port holds {table:?}"));
         }
-        self.moved.add(&table, &state, self.lent.bytes().len());
+        let accepts = matches!(call, Call::Offer { .. }) && expected.number == DONE;
+        self.moved.add(&table, &state, self.lent.bytes().len(), accepts);
         self.labels.add(self.lent.words());
         let areas = self.lent.areas();
         let told = self.lent.figures(areas);

@@ -15,6 +15,8 @@ const SHORT_BLOCK: u64 = 512;
 pub struct Moved {
     /// Where the body of each offer since the opening was last seen.
     places: Vec<Option<u64>>,
+    /// How many bodies there were after the call before.
+    bodies: usize,
     calls: u64,
     /// In areas up to the border, and in longer ones.
     areas: [Tally; 2],
@@ -26,6 +28,8 @@ struct Tally {
     moving: u64,
     /// Of these, the ones in which a body before the first gap stayed.
     staying: u64,
+    /// Of these, the ones in which bodies went too. Only an offer among them can pack in its sweep.
+    dropping: u64,
     /// Of these, the ones that moved a body of this sort: up to a block or longer, by less than a
     /// block, by one, or by more.
     sorts: [[u64; 3]; 2],
@@ -34,10 +38,12 @@ struct Tally {
 impl Moved {
     pub fn open(&mut self) {
         self.places.clear();
+        self.bodies = 0;
     }
 
-    /// Sees where the bodies are after a call on an area of so many bytes.
-    pub fn add(&mut self, table: &Table, state: &State<'_>, area: usize) {
+    /// Sees where the bodies are after a call on an area of so many bytes, and whether it accepted
+    /// a body.
+    pub fn add(&mut self, table: &Table, state: &State<'_>, area: usize, accepts: bool) {
         let held = table.held.iter().zip(&state.held);
         let held = held.flat_map(|(record, template)| record.bodies.iter().zip(&template.bodies));
         let handed = table.handed.iter().flat_map(|record| &record.bodies).zip(&state.handed);
@@ -59,8 +65,12 @@ impl Moved {
                 None => {}
             }
         }
+        let records = table.held.iter().chain(&table.handed);
+        let bodies = records.map(|record| record.bodies.len()).sum();
+        let drops = bodies < self.bodies + usize::from(accepts);
+        self.bodies = bodies;
         self.calls += 1;
-        self.areas[usize::from(is_long)].add(seen, stays);
+        self.areas[usize::from(is_long)].add(seen, stays, drops);
     }
 
     /// How far a body went since it was last seen, where it was.
@@ -75,10 +85,11 @@ impl Moved {
 }
 
 impl Tally {
-    fn add(&mut self, seen: [[bool; 3]; 2], stays: bool) {
+    fn add(&mut self, seen: [[bool; 3]; 2], stays: bool, drops: bool) {
         let moves = seen.as_flattened().contains(&true);
         self.moving += u64::from(moves);
         self.staying += u64::from(moves && stays);
+        self.dropping += u64::from(moves && drops);
         let counts = self.sorts.as_flattened_mut();
         counts.iter_mut().zip(seen.as_flattened()).for_each(|(count, &is)| *count += u64::from(is));
     }
@@ -87,13 +98,15 @@ impl Tally {
 impl fmt::Display for Moved {
     fn fmt(&self, to: &mut fmt::Formatter<'_>) -> fmt::Result {
         let areas = [("up to", BLOCK), ("above", SHORT_BLOCK)];
-        for ((which, block), Tally { moving, staying, sorts }) in areas.iter().zip(&self.areas) {
+        for ((which, block), tally) in areas.iter().zip(&self.areas) {
+            let Tally { moving, staying, dropping, sorts } = tally;
             if *moving == 0 {
                 continue;
             }
             let share = 100.0 * *moving as f64 / self.calls as f64;
             write!(to, "  bodies move in areas {which} {LONG_AREA} bytes: {moving} calls, ")?;
-            writeln!(to, "{share:.4} %; in {staying} of them others before them stay")?;
+            write!(to, "{share:.4} %; in {staying} of them others before them stay, ")?;
+            writeln!(to, "in {dropping} bodies go in the same call")?;
             for (length, [less, one, more]) in ["up to", "above"].iter().zip(sorts) {
                 write!(to, "    bodies of {length} {block} bytes: by less in {less} calls, ")?;
                 writeln!(to, "by {block} in {one}, by more in {more}")?;
