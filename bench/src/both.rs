@@ -316,8 +316,8 @@ impl Both {
     pub fn by_hand(&mut self) -> Spent {
         self.lent.restore();
         let shape = self.shape;
-        let Lent { words, bytes, records_at, .. } = &mut self.lent;
-        (time_of(|| by_hand::offer(&shape, words, *records_at, bytes)).0, 1)
+        let Lent { words, bytes, .. } = &mut self.lent;
+        (time_of(|| by_hand::offer(&shape, words, bytes)).0, 1)
     }
 
     /// The areas as they are before a call, with bodies that differ.
@@ -335,8 +335,8 @@ impl Both {
         self.ours();
         let (our_words, our_bytes) = (self.lent.words.clone(), self.lent.bytes.clone());
         self.restore_with_content();
-        let Lent { words, bytes, records_at, .. } = &mut self.lent;
-        let kept = by_hand::offer(&self.shape, words, *records_at, bytes);
+        let Lent { words, bytes, .. } = &mut self.lent;
+        let kept = by_hand::offer(&self.shape, words, bytes);
         let end = HEADER_WORDS + ENTRY_WORDS * kept;
         assert_eq!(our_words[10], kept as u64 + 1, "{:?}", self.shape);
         assert!(our_words[HEADER_WORDS..end] == words[HEADER_WORDS..end], "{:?}", self.shape);

@@ -2,13 +2,11 @@
 //!
 //! `Runs` are the moves alone: the bodies, and the entries, that lie side by side and go the same
 //! way, each moved at once by the C library's `memmove`. `offer` finds them as a routine by hand
-//! would: every live word is read once, as the test of 28 must, and the entries and the bodies are
-//! brought to where the library leaves them. No record, header or new body is written. The labels
-//! are the templates' numbers, and template 0 is the one that goes.
+//! would, and brings the entries and the bodies to where the library leaves them. No record, header
+//! or new body is written: it stands for what an eviction or a move adds to an offer, the records
+//! aside. The labels are the templates' numbers, and template 0 is the one that goes.
 
 use crate::shape::{Call, Shape};
-use crate::sums;
-use std::hint::black_box;
 use std::ptr;
 
 const HEADER: usize = 64;
@@ -112,29 +110,37 @@ fn add(runs: &mut Vec<Run>, from: usize, to: usize, length: usize) {
     }
 }
 
-/// Gives how many entries stay. The live words are header with entries, and records.
-pub fn offer(shape: &Shape, words: &mut [u64], records_at: usize, bytes: &mut [u8]) -> usize {
-    let bodies = shape.bodies();
-    let front = &words[..HEADER + 4 * bodies];
-    let records = &words[records_at..records_at + 8 * shape.templates];
-    black_box(
-        sums::vectorised(black_box(front)).wrapping_add(sums::vectorised(black_box(records))),
-    );
+/// Gives how many entries stay. Which do, and whether a body lies behind the one before, is told by
+/// the entries alone, as in the library.
+pub fn offer(shape: &Shape, words: &mut [u64], bytes: &mut [u8]) -> usize {
     let (entries, _) = words[HEADER..].as_chunks_mut::<4>();
-    let entries = &mut entries[..bodies];
+    let entries = &mut entries[..shape.bodies()];
     match shape.call {
-        Call::OfferPacks => pack(entries, bytes, shape.gap),
+        Call::OfferPacks => pack(entries, bytes),
         Call::OfferEvictsBytes => evict_and_pack(entries, bytes),
         _ => evict(entries),
     }
 }
 
-/// All bodies lie side by side behind the gap.
-fn pack(entries: &mut [Entry], bytes: &mut [u8], gap: usize) -> usize {
-    for entry in entries.iter_mut() {
-        entry[PLACE] -= gap as u64;
+impl Run {
+    /// The run that a body at this place goes on with, or the next one.
+    fn up_to(self, bytes: &mut [u8], place: usize) -> Self {
+        if self.from + self.length == place {
+            return self;
+        }
+        self.make(bytes);
+        Self { from: place, to: self.to + self.length, length: 0 }
     }
-    bytes.copy_within(gap.., 0);
+}
+
+fn pack(entries: &mut [Entry], bytes: &mut [u8]) -> usize {
+    let mut run = Run { from: 0, to: 0, length: 0 };
+    for entry in entries.iter_mut() {
+        run = run.up_to(bytes, entry[PLACE] as usize);
+        entry[PLACE] = (run.to + run.length) as u64;
+        run.length += entry[LENGTH] as usize;
+    }
+    run.make(bytes);
     entries.len()
 }
 
@@ -155,21 +161,19 @@ fn evict(entries: &mut [Entry]) -> usize {
 }
 
 fn evict_and_pack(entries: &mut [Entry], bytes: &mut [u8]) -> usize {
-    let (mut kept, mut end) = (0, 0);
+    let mut kept = 0;
     let mut run = Run { from: 0, to: 0, length: 0 };
     for at in 0..entries.len() {
-        let entry = entries[at];
-        let (place, len) = (entry[PLACE] as usize, entry[LENGTH] as usize);
-        if entry[LABEL] == EVICTED {
-            run.make(bytes);
-            run = Run { from: place + len, to: end, length: 0 };
+        let [label, place, length, clock] = entries[at];
+        if label == EVICTED {
             continue;
         }
+        run = run.up_to(bytes, place as usize);
+        let packed = (run.to + run.length) as u64;
         // SAFETY: no more are kept than were passed.
-        unsafe { *entries.get_unchecked_mut(kept) = [entry[0], end as u64, entry[2], entry[3]] };
+        unsafe { *entries.get_unchecked_mut(kept) = [label, packed, length, clock] };
+        run.length += length as usize;
         kept += 1;
-        end += len;
-        run.length += len;
     }
     run.make(bytes);
     kept

@@ -12,7 +12,7 @@ pub struct Lent {
     /// The live words as they stand before a call: header with entries, records.
     front: Vec<u64>,
     records: Vec<u64>,
-    pub records_at: usize,
+    records_at: usize,
 }
 
 impl Lent {
