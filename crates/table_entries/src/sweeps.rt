@@ -75,7 +75,7 @@ pub fn sweep(words: &mut [u64], entries: usize, test: StayTest, skip: &mut [u32;
         let entry = entry_at(words, from);
         if stays(test, entry) {
             if !spend(skip, entry.label) {
-                move_entry(words, from, to);
+                put_entry(words, to, entry);
                 kept += 1;
                 bytes = wrapping_add_u64(bytes, entry.len);
                 to += ENTRY_WORDS;

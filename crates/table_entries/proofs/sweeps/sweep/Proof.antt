@@ -1,4 +1,4 @@
-use mathlib.Core.Path.{_≡_, sym, ap, _∙_}
+use mathlib.Core.Path.{_≡_, _∙_}
 use mathlib.Core.Logic.{⊎-elim}
 use borrow.Author.Tests.{not-true, not-false}
 use borrow.Author.Needs.{needs}
@@ -6,7 +6,7 @@ use Prim.Native.Nat.{_<_}
 use lib.ListN.{length}
 use Rattle.table.specs.Layout.{entriesAt}
 use Rattle.table.specs.Table.{entriesFrom}
-use Rattle.table_entries.specs.Sweep.{swept, putEntry}
+use Rattle.table_entries.specs.Sweep.{swept}
 use Rattle.table_entries.proofs.KeepPass.{KeptSoFar, none-kept, none-left, entry-left-out, entry-kept}
 use Rattle.table_entries.proofs.SweepPass.{length-spent, none-swept, first-goes, first-skipped, first-kept}
 use Rattle.table_entries.proofs.sweeps.sweep.Statement.{statement}
@@ -32,8 +32,8 @@ stays-requires c κs = search needs
 spend-requires : tie.Need-spend-requires Inv-loop μ-loop
 spend-requires c κs = search needs
 
-move-entry-requires : tie.Need-move-entry-requires Inv-loop μ-loop
-move-entry-requires c κs = search needs
+put-entry-requires : tie.Need-put-entry-requires Inv-loop μ-loop
+put-entry-requires c κs = search needs
 
 add-kept : tie.Need-add-kept Inv-loop μ-loop
 add-kept c = search needs
@@ -59,8 +59,7 @@ loop-again c =
     let top : tie.At-loop Inv-loop μ-loop = search needs in
     let more : 0 < top .loop .left = search needs in
     ⊎-elim
-    (λ v. rw
-    (v .9 ∙ v .5 .ensures ∙ ap (putEntry _ _) (sym (c .before .before .entry-at .ensures)), v .10, v .11, v .12, v .13)
+    (λ v. rw (v .9 ∙ v .5 .ensures, v .10, v .11, v .12, v .13)
     (length-spent (v .2 .ensures) (search needs), search (entry-kept, first-kept, not-true, needs)))
     (⊎-elim
     (λ v. let skipped = first-skipped _ _ (c .before .stays .ensures) (v .0 .taken) (v .2 .ensures)
@@ -86,7 +85,7 @@ sweep-spec =
     entry-at-requires
     stays-requires
     spend-requires
-    move-entry-requires
+    put-entry-requires
     add-kept
     wrapping-add-u64-requires
     add-to
