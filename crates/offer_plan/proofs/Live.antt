@@ -8,7 +8,7 @@ use lib.Dec.{eqb, leb, ltb}
 use lib.ListN.{getD}
 use borrow.Author.Tests.{ne-eqb}
 use Rattle.config.specs.declared.Ttl.{Ttl}
-use Rattle.config.specs.declared.Ttl.the-variants.{None}
+use Rattle.config.specs.declared.Ttl.the-variants.{None, After}
 use Rattle.config.specs.Age.{expiredAt}
 use Rattle.config.proofs.Lists.{All, all-map}
 use Rattle.table.specs.declared.Entry.{Entry}
@@ -18,9 +18,10 @@ use Rattle.table.specs.declared.RecordFound.the-variants as Record
 use Rattle.table.specs.Table.{tally}
 use Rattle.table.specs.Reads.{recordOf, labelIn, countIn, labelOf, labelOrNone, countOf, liveCount}
 use Rattle.table.proofs.Lookups.{label-told, no-label-told, count-told, no-count-told}
-use Rattle.table_view.proofs.AllStay.{all-live, none-expired}
+use Rattle.table_view.proofs.AllStay.{none-expired}
 use Rattle.offer_plan.specs.declared.plan.Decision.{Decision}
-use Rattle.offer_plan.specs.Plan.{liveSums, liveIn, FoundHas, CountRight, LiveRead}
+use Rattle.offer_plan.specs.Plan.{liveSums, liveIn, FoundHas, CountRight, liveFound, LiveRead}
+use Rattle.offer_plan.specs.Plan.{noneExpires}
 use Rattle.offer_plan.specs.Plan.{liveAt, othersFill, NothingGoes}
 
 -- ---- by what was found
@@ -33,28 +34,34 @@ module _ (x : RecordFound) where
   none-fills n most f = rw f
 
   module _ (ttl : Ttl) (clock : ℕ) (es : List Entry) where
-    pub none-live : x ≡ Record.Nothing → 0 ≡ liveIn ttl clock es x
-    none-live f = rw f
+    pub live-found : (n : ℕ) → FoundHas (λ r. n ≡ liveCount ttl clock (r .label) es) x →
+        liveFound n x ≡ liveIn ttl clock es x
+    live-found n = by-found x
+      where
+        by-found : (y : RecordFound) → FoundHas (λ r. n ≡ liveCount ttl clock (r .label) es) y →
+            liveFound n y ≡ liveIn ttl clock es y
+        by-found (Record.At r) h = h
+        by-found Record.Nothing h = refl
 
-    pub counted-live : (r : TemplateRecord) → x ≡ Record.At r → CountRight es x → ttl ≡ None →
-        r .count ≡ liveIn ttl clock es x
-    counted-live r f right e =
-        let here : r .count ≡ tally (r .label) es = rw f at right in
-        rw (f, e) (here ∙ sym (all-live clock (r .label) es))
+  -- as many as the record counts
+  pub all-found : (n : ℕ) → countIn x ≡ n → liveFound n x ≡ countIn x
+  all-found n = by-found x
+    where
+      by-found : (y : RecordFound) → countIn y ≡ n → liveFound n y ≡ countIn y
+      by-found (Record.At r) h = sym h
+      by-found Record.Nothing h = refl
 
-    pub read-live : (r : TemplateRecord) (n : ℕ) → x ≡ Record.At r → n ≡ liveCount ttl clock (r .label) es →
-        n ≡ liveIn ttl clock es x
-    read-live r n f e = rw f e
-
--- what holds of each record holds of the one that is found
-record-has : (P : TemplateRecord → Type 0) (id : ℕ) (rs : List TemplateRecord) → All P rs → FoundHas P (recordOf id rs)
+-- what holds of each record with the key holds of the one that is found
+pub record-keyed : (P : TemplateRecord → Type 0) (id : ℕ) (rs : List TemplateRecord) →
+    All (λ r. eqb id (r .key) ≡ true → P r) rs → FoundHas P (recordOf id rs)
 unfolding recordOf
-record-has P id [] a = tt
-record-has P id (r ∷ rs) a = by-key (eqb id (r .key)) (record-has P id rs (a .1))
+record-keyed P id [] a = tt
+record-keyed P id (r ∷ rs) a = by-key (eqb id (r .key)) refl (record-keyed P id rs (a .1))
   where
-    by-key : (t : Bool) → FoundHas P (recordOf id rs) → FoundHas P (cond t (Record.At r) (recordOf id rs))
-    by-key true ih = a .0
-    by-key false ih = ih
+    by-key : (t : Bool) → eqb id (r .key) ≡ t → FoundHas P (recordOf id rs) →
+        FoundHas P (cond t (Record.At r) (recordOf id rs))
+    by-key true e ih = a .0 e
+    by-key false e ih = ih
 
 module _ {ttl : Ttl} {clock : ℕ} {rs : List TemplateRecord} {es : List Entry} (reads : LiveRead ttl clock rs es)
     (id : ℕ) where
@@ -63,7 +70,7 @@ module _ {ttl : Ttl} {clock : ℕ} {rs : List TemplateRecord} {es : List Entry} 
 
   module _ {x : RecordFound} (found : x ≡ recordOf id rs) where
     has : (P : TemplateRecord → Type 0) → All P rs → FoundHas P x
-    has P a = rw found (record-has P id rs a)
+    has P a = rw found (record-keyed P id rs (all-map P _ (λ r h _. h) rs a))
 
     pub count-right : CountRight es x
     count-right = has (λ r. r .count ≡ tally (r .label) es) (reads .counts)
@@ -106,6 +113,21 @@ module _ {ttl : Ttl} {clock : ℕ} {rs : List TemplateRecord} {es : List Entry} 
       by-found Record.Nothing right h =
           all-map (λ e. e .label < 1024) (λ e. eqb 1024 (e .label) && expiredAt ttl clock (e .clock) ≡ false)
           (λ e s. rw (ne-eqb 1024 (e .label) (λ q. omega arith))) es small
+
+-- ---- whether no body goes as expired
+
+module _ (ttl : Ttl) (all : Bool) (count live : ℕ) where
+  pub none-aged : ttl ≡ None → true ≡ noneExpires ttl all count live
+  unfolding noneExpires
+  none-aged e = rw e
+
+  pub all-aged : (limit : ℕ) → ttl ≡ After limit → all ≡ true → false ≡ noneExpires ttl all count live
+  unfolding noneExpires
+  all-aged limit e a = rw (e, a)
+
+  pub own-aged : (limit : ℕ) → ttl ≡ After limit → all ≡ false → eqb count live ≡ noneExpires ttl all count live
+  unfolding noneExpires
+  own-aged limit e a = rw (e, a)
 
 -- ---- whether nothing goes
 

@@ -8,10 +8,11 @@ use native.Mathlib.Omega.{arith}
 use lib.ListN.{length, set, take, drop}
 use Rattle.config.specs.declared.PendingFlowsConfig.{PendingFlowsConfig}
 use Rattle.config.specs.Limits.{recordWords}
+use Rattle.table.specs.declared.RecordFound.{RecordFound}
 use Rattle.table.specs.Layout.{limitsOf, heldCount, entryCount, chanceCount, entriesAt, recordsAt}
 use Rattle.table.specs.Table.{tableOf, entriesFrom, recordsFrom}
 use Rattle.table.specs.WellFormed.{wellFormed}
-use Rattle.table.specs.Reads.{labelOf, labelOrNone}
+use Rattle.table.specs.Reads.{recordOf, labelIn, countIn, labelOrNone}
 use Rattle.table.proofs.Facts.{LegalWords, words-say}
 use Rattle.table_entries.proofs.LabelSums.{zeros}
 use Rattle.table_records.specs.Choose.{skipAll, skipping}
@@ -21,9 +22,11 @@ use Rattle.pending_flows.specs.Header.{figuresAt}
 use Rattle.pending_flows.specs.View.{cacheOf}
 use Rattle.offer_plan.specs.declared.plan.OfferPlan.{OfferPlan}
 use Rattle.offer_plan.specs.declared.plan.Decision.{Decision}
-use Rattle.offer_plan.specs.Plan.{liveSums, LiveRead, Decides, NothingGoes, skipOf, Plans}
-use Rattle.offer_plan.proofs.Tables.{evicted-few, held-read, held-are, handed-are}
+use Rattle.offer_plan.specs.Plan.{liveSums, liveBodies, LiveSeen, LiveRead, Decides, NothingGoes}
+use Rattle.offer_plan.specs.Plan.{noneExpires, skipOf, Plans}
+use Rattle.offer_plan.proofs.Tables.{evicted-few, held-seen, held-read, held-are, handed-are}
 use Rattle.offer_plan.proofs.Tables.{leaving-are, stay-are}
+use Rattle.offer_plan.proofs.Live.{record-keyed, label-is, count-is}
 use Rattle.offer_plan.proofs.Labels.{all-drop}
 use Rattle.offer_plan.proofs.Planned.{plan-made}
 
@@ -99,16 +102,30 @@ module _ (w b : List ℕ) (ok : wellFormed w (length b) ≡ true) (l : PendingFl
           live = all-drop _ n (tableOf w .held) (all .live);
         })
 
-    pub plan-done : (id clock label : ℕ) (d : Decision) (v : Bool) →
+    pub live-seen : (id clock m : ℕ) → m ≡ liveBodies w id clock →
+        LiveSeen id m (l .ttl) clock (recordsFrom w (p + recordWords * n) (f .templates - n))
+        (entriesFrom w entriesAt (f .entries))
+    live-seen id clock m seen =
+        let held = tableOf w .held in
+        rw (stay-read, limits, entries-many) (record {
+          counted = record-keyed _ id (drop n held) (all-drop _ n held (held-seen w b ok id clock m seen));
+        })
+
+    pub plan-done : (id clock label c m : ℕ) (d : Decision) (x : RecordFound) (v u : Bool) →
+        m ≡ liveBodies w id clock →
         Decides l id (liveSums (l .ttl) clock (entriesFrom w entriesAt (f .entries)))
         (recordsFrom w (p + recordWords * n) (f .templates - n)) d →
-        label ≡ labelOrNone (labelOf id (recordsFrom w p (f .templates))) → (v ≡ true → NothingGoes n (f .chance) d) →
+        x ≡ recordOf id (recordsFrom w p (f .templates)) → label ≡ labelOrNone (labelIn x) → c ≡ countIn x →
+        (v ≡ true → NothingGoes n (f .chance) d) → u ≡ noneExpires (l .ttl) (d .all) c m →
         Plans w b id len clock
-        (record { full = d .full; label = label; all = d .all; none = v; evicted = n; first = d .first })
-    plan-done id clock label d v decided labelled certain =
+        (record { full = d .full; label = label; all = d .all; none = v; whole = u; evicted = n; first = d .first })
+    plan-done id clock label c m d x v u seen decided found labelled counted certain whole =
         let held-rows : recordsFrom w p (f .templates) ≡ tableOf w .held = rw (start, held-many) (held-are w b ok) in
+        let own : x ≡ recordOf id (tableOf w .held) = found ∙ rw held-rows in
+        let reads = held-read w b ok clock in
         plan-made w b id len clock ok n goes d (rw (limits, entries-many, stay-read) at decided) label
-        (labelled ∙ rw held-rows) v (λ e. rw handed-many at (certain e)) few
+        (labelled ∙ ap labelOrNone (label-is reads id own)) v (λ e. rw handed-many at (certain e)) m seen u
+        (whole ∙ rw (limits, counted, count-is reads id own)) few
 
   -- the skips of a plan
   module _ (plan : OfferPlan) (few : plan .evicted ≤ heldCount w) where

@@ -7,20 +7,22 @@ use Prim.Native.Nat.{ℕ, _≤_, _<_}
 use native.Mathlib.Omega.{arith}
 use lib.Dec.{eqb, leb, ltb}
 use lib.ListN.{length, getD, take, drop}
-use borrow.Author.Tests.{leb-true, ne-eqb}
+use borrow.Author.Tests.{leb-true, eqb-true, not-true, ne-eqb}
+use Rattle.config.specs.declared.Ttl.{Ttl}
+use Rattle.config.specs.declared.Ttl.the-variants.{None, After}
 use Rattle.config.specs.declared.PendingFlowsConfig.{PendingFlowsConfig}
 use Rattle.config.specs.Age.{expiredAt}
-use Rattle.config.proofs.Tests.{and-right}
+use Rattle.config.proofs.Tests.{and-left, and-right}
 use Rattle.config.proofs.Lists.{All, all-map, all-back}
 use Rattle.table.specs.declared.Entry.{Entry}
 use Rattle.table.specs.declared.TemplateRecord.{TemplateRecord}
 use Rattle.table.specs.Layout.{limitsOf, heldCount, chanceCount}
 use Rattle.table.specs.Table.{tableOf, index, recordsFrom}
 use Rattle.table.specs.WellFormed.{wellFormed}
-use Rattle.table.specs.Reads.{labelOf, labelOrNone, countOf}
+use Rattle.table.specs.Reads.{recordOf, labelOf, labelOrNone, countOf}
 use Rattle.table.proofs.Facts.{differ-front, differ-across, Differ}
-use Rattle.table.proofs.FoundLabels.{found-alone}
 use Rattle.table_entries.specs.declared.StayTest.{StayTest}
+use Rattle.table_entries.specs.Stays.{stays}
 use Rattle.table_entries.specs.Sums.{summed}
 use Rattle.table_entries.proofs.LabelSums.{zeros}
 use Rattle.table_records.specs.Choose.{skipAll, setEach, liveRecords, firstLive}
@@ -33,19 +35,19 @@ use Rattle.pending_flows.specs.View.{bodiesAt, templatesAt}
 use Rattle.table_view.proofs.Tied.{Tied, entries-small}
 use Rattle.table_view.proofs.Swept.{bodyStays}
 use Rattle.table_view.proofs.Closed.{templates-take, templates-drop}
-use Rattle.table_view.proofs.AllStay.{none-skipped, all-stay}
+use Rattle.table_view.proofs.AllStay.{none-skipped, all-stay, unaged-stay}
 use Rattle.offer_plan.specs.declared.plan.OfferPlan.{OfferPlan}
 use Rattle.offer_plan.specs.declared.plan.Decision.{Decision}
-use Rattle.offer_plan.specs.Plan.{liveTest, liveAt, Decides, NothingGoes, planTest, skipOf}
-use Rattle.offer_plan.specs.Plan.{KeepsAll, Plans}
+use Rattle.offer_plan.specs.Plan.{liveTest, liveBodies, liveAt, Decides, NothingGoes, noneExpires}
+use Rattle.offer_plan.specs.Plan.{planTest, skipOf, KeepsAll, StayWhole, Plans}
 use Rattle.offer_plan.proofs.RecordReads.{Counted, here-read, others-read, alive-read, first-read}
 use Rattle.offer_plan.proofs.Labels.{all-take, all-drop, Alike}
 use Rattle.offer_plan.proofs.Labels.{alike, has-alike}
 use Rattle.offer_plan.proofs.Sums.{keep-unaged, all-skipped}
-use Rattle.offer_plan.proofs.Live.{label-fresh}
+use Rattle.offer_plan.proofs.Live.{live-found, all-found, record-keyed, count-is, live-is, label-fresh}
 use Rattle.offer_plan.proofs.Skips.{none-set, held-skipped, all-handed-skipped}
 use Rattle.offer_plan.proofs.Tables.{rows, labels-small, within, short, entries-few, some-templates}
-use Rattle.offer_plan.proofs.Tables.{held-counted, held-read, handed-are}
+use Rattle.offer_plan.proofs.Tables.{held-alone, held-seen, held-counted, held-read, handed-are}
 
 cond-and : {A : Type 0} (s t : Bool) (x y : A) → cond (s && t) x y ≡ cond s (cond t x y) y
 cond-and true t x y = refl
@@ -164,9 +166,18 @@ module _ (w b : List ℕ) (id len clock : ℕ) where
             (omega (arith, some-templates w b ok))
 
     module _ (label : ℕ) (labelled : label ≡ labelOrNone (labelOf id held)) (v : Bool)
-        (certain : v ≡ true → NothingGoes n (chanceCount w) d) where
+        (certain : v ≡ true → NothingGoes n (chanceCount w) d) (m : ℕ) (seen : m ≡ liveBodies w id clock) (t : Bool)
+        (whole : t ≡ noneExpires (l .ttl) (d .all) (countOf id held) m) where
       abbrev made : OfferPlan
-      made = record { full = d .full; label = label; all = d .all; none = v; evicted = n; first = d .first }
+      made = record {
+        full = d .full;
+        label = label;
+        all = d .all;
+        none = v;
+        whole = t;
+        evicted = n;
+        first = d .first;
+      }
 
       abbrev leaving : List TemplateRecord
       leaving = take n held
@@ -227,7 +238,7 @@ module _ (w b : List ℕ) (id len clock : ℕ) where
       held-told : All Told held
       held-told =
           each held (labels-small w b ok) (differ-across (λ r. r .label) held (tableOf w .handed) (tied .labels-differ))
-          known (rw labelled (found-alone id held keys labels (labels-small w b ok)))
+          known (rw labelled (held-alone w b ok id))
         where
           tied : Tied (held ++ tableOf w .handed) es (index w)
           tied = rows w b ok
@@ -257,18 +268,48 @@ module _ (w b : List ℕ) (id len clock : ℕ) where
           let no-first : d .first ≡ 1024 = decided .first ∙ rw (none .one-id) in
           rw (no-first, none .evicts-none, ← handed-are w b ok, none .hands-none) none-set
 
-      all-kept : KeepsAll w clock made
-      all-kept e =
-          let none = certain e in
-          let q : StayTest = planTest l clock made in
+      small : All (λ x. x .label < 1024) es
+      small =
           let tied = rows w b ok in
-          let small = entries-small (held ++ tableOf w .handed) es (tied .labels-small) (tied .labels-known) in
-          let counts : liveAt live (labelOf id held) ≡ countOf id held =
-          rw (none .evicts-none) at (decided .none-expired (none .none-expired)) in
+          entries-small (held ++ tableOf w .handed) es (tied .labels-small) (tied .labels-known)
+
+      -- where only the id's bodies are aged, and all of them are live
+      fresh-stay : d .all ≡ false → liveAt live (labelOf id held) ≡ countOf id held →
+          All (λ x. stays (planTest l clock made) x ≡ true) es
+      fresh-stay one counts =
           let fresh =
           subst (λ (k : ℕ). All (λ x. eqb k (x .label) && expiredAt (l .ttl) clock (x .clock) ≡ false) es)
           (sym labelled) (label-fresh (held-read w b ok clock) id small counts) in
-          rw (skips-none none) (none-skipped q es small (all-stay q es (none .one-id) fresh (short w b ok)))
+          all-stay (planTest l clock made) es one fresh (short w b ok)
+
+      all-kept : KeepsAll w clock made
+      all-kept e =
+          let none = certain e in
+          let counts : liveAt live (labelOf id held) ≡ countOf id held =
+          rw (none .evicts-none) at (decided .none-expired (none .none-expired)) in
+          rw (skips-none none) (none-skipped (planTest l clock made) es small (fresh-stay (none .one-id) counts))
+
+      -- as many are live as the id's record counts
+      own-counts : countOf id held ≡ m → liveAt live (labelOf id held) ≡ countOf id held
+      own-counts all =
+          let reads = held-read w b ok clock in
+          let x = recordOf id held in
+          let counted = count-is reads id refl in
+          sym (live-is reads id refl)
+          ∙ sym (live-found x (l .ttl) clock es m (record-keyed _ id held (held-seen w b ok id clock m seen)))
+          ∙ all-found x m (counted ∙ all)
+          ∙ counted
+
+      stay-whole : StayWhole w clock made
+      unfolding noneExpires
+      stay-whole e = by-ttl (l .ttl) refl (sym whole ∙ e)
+        where
+          by-ttl : (t : Ttl) → l .ttl ≡ t → noneExpires t (d .all) (countOf id held) m ≡ true →
+              All (λ x. stays (planTest l clock made) x ≡ true) es
+          by-ttl None is h = unaged-stay (planTest l clock made) es is (short w b ok)
+          by-ttl (After limit) is h =
+              fresh-stay (not-true (d .all) (and-left (not (d .all)) (eqb (countOf id held) m) h))
+              (own-counts (eqb-true (countOf id held) m (and-right (not (d .all)) (eqb (countOf id held) m) h)))
 
       pub plan-made : n ≤ heldCount w → Plans w b id len clock made
       unfolding skipOf
@@ -284,4 +325,5 @@ module _ (w b : List ℕ) (id len clock : ℕ) where
                 (all-back (λ u. u .label < 1024) held handed (rows w b ok .labels-small));
             few = few;
             keeps-all = all-kept;
+            stay-whole = stay-whole;
           }

@@ -31,10 +31,10 @@ use Rattle.pending_flows.specs.Header.{figuresAt}
 use Rattle.pending_flows.specs.View.{cacheOf, templatesAt}
 use Rattle.pending_flows.proofs.Questions as Questions
 use Rattle.table_view.proofs.AllStay.{all-live}
-use Rattle.offer_plan.specs.Plan.{liveTest, lensOf, liveSums, liveIn, LiveRead}
+use Rattle.offer_plan.specs.Plan.{liveTest, lensOf, liveSums, liveFound, LiveSeen, LiveRead}
 use Rattle.offer_plan.specs.Plan.{liveAt, othersFill, firstEvicted, firstOfFull, Decides}
 use Rattle.offer_plan.proofs.RecordReads.{evictions-read, none-evicted, firstSize, one-evicted}
-use Rattle.offer_plan.proofs.Live.{label-is, count-is, live-is}
+use Rattle.offer_plan.proofs.Live.{live-found, label-is, count-is, live-is}
 use Rattle.offer_plan.proofs.Reaches.{lens-read}
 use Rattle.offer_plan.proofs.Tables.{within, held-sized, total-held, held-are}
 
@@ -99,11 +99,12 @@ oldest-found l clock es rs sums k q tests counted first =
     let is : sums ≡ liveSums (l .ttl) clock es = counted ∙ rw tests in
     rw is at first
 
--- ---- the decision: h live bodies are found, and the record counts c
+-- ---- the decision: of the id's m live bodies h are found, and the record counts c
 
 module _ (l : PendingFlowsConfig) (id clock : ℕ) (w : List ℕ) (es : List Entry) (p n : ℕ)
-    (x : RecordFound) (h c : ℕ) (reads : LiveRead (l .ttl) clock (recordsFrom w p n) es)
-    (found : x ≡ recordOf id (recordsFrom w p n)) (read : h ≡ liveIn (l .ttl) clock es x) (counted : c ≡ countIn x)
+    (x : RecordFound) (m h c : ℕ) (reads : LiveRead (l .ttl) clock (recordsFrom w p n) es)
+    (seen : LiveSeen id m (l .ttl) clock (recordsFrom w p n) es) (found : x ≡ recordOf id (recordsFrom w p n))
+    (read : h ≡ liveFound m x) (counted : c ≡ countIn x)
   where
     abbrev rs : List TemplateRecord
     rs = recordsFrom w p n
@@ -112,7 +113,7 @@ module _ (l : PendingFlowsConfig) (id clock : ℕ) (w : List ℕ) (es : List Ent
     live = liveSums (l .ttl) clock es
 
     here : liveAt live (labelOf id rs) ≡ h
-    here = sym (read ∙ live-is reads id found)
+    here = sym (read ∙ live-found x (l .ttl) clock es m (rw found (seen .counted)) ∙ live-is reads id found)
 
     fresh : eqb h c ≡ true → liveAt live (labelOf id rs) ≡ countOf id rs
     fresh e = here ∙ eqb-true h c e ∙ counted ∙ count-is reads id found

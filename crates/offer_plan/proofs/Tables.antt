@@ -5,8 +5,9 @@ use mathlib.Core.Bool.{Bool, true, false, not, cond}
 use mathlib.Core.List.{List, [], _∷_, _++_}
 use Prim.Native.Nat.{ℕ, suc, _+_, _*_, _-_, _≤_, _<_}
 use native.Mathlib.Omega.{arith}
-use lib.Dec.{ltb}
+use lib.Dec.{eqb, ltb}
 use lib.ListN.{length, take, drop}
+use borrow.Author.Tests.{eqb-true}
 use Rattle.config.specs.declared.Ttl.the-variants.{None}
 use Rattle.config.specs.Limits.{recordWords}
 use Rattle.config.proofs.Lists.{All, all-map, all-front}
@@ -16,7 +17,9 @@ use Rattle.table.specs.Layout.{limitsOf, totalWord, heldCount, entryCount, chan
 use Rattle.table.specs.Table.{tableOf, index, recordsFrom, tally}
 use Rattle.table.specs.WellFormed.{wellFormed}
 use Rattle.table.proofs.Words.{length-entries, length-records, records-behind}
+use Rattle.table.specs.Reads.{labelOf, labelOrNone, liveCount}
 use Rattle.table.proofs.Facts.{LegalWords, words-say, differ-front}
+use Rattle.table.proofs.FoundLabels.{found-alone}
 use Rattle.table_entries.specs.Sums.{summed}
 use Rattle.table_entries.proofs.LabelSums.{zeros}
 use Rattle.cache_model.specs.Bodies.{Template, size, sumTemplates, expired}
@@ -28,7 +31,7 @@ use Rattle.table_view.proofs.Tied.{Tied, words-tied}
 use Rattle.table_view.proofs.Swept.{Within, placed-within}
 use Rattle.table_view.proofs.Removed.{placed-short}
 use Rattle.table_view.proofs.Totals.{lens-total}
-use Rattle.offer_plan.specs.Plan.{liveTest, LiveRead}
+use Rattle.offer_plan.specs.Plan.{liveTest, liveBodies, LiveRead}
 use Rattle.offer_plan.proofs.RecordReads.{Sized, Counted}
 use Rattle.offer_plan.proofs.Sums.{sizes-summed, live-summed}
 
@@ -61,6 +64,21 @@ module _ (w b : List ℕ) (ok : wellFormed w (length b) ≡ true) where
 
   pub labels-small : All (λ r. r .label < 1024) held
   labels-small = all-front (λ r. r .label < 1024) held (tableOf w .handed) (rows .labels-small)
+
+  -- the label of an id belongs to the held record with that key alone
+  pub held-alone : (id : ℕ) → All (λ u. eqb (labelOrNone (labelOf id held)) (u .label) ≡ eqb id (u .key)) held
+  held-alone id =
+      found-alone id held (differ-front (λ r. r .key) held (tableOf w .handed) (rows .keys-differ))
+      (differ-front (λ r. r .label) held (tableOf w .handed) (rows .labels-differ)) labels-small
+
+  -- so that it has as many live bodies as the id
+  pub held-seen : (id clock m : ℕ) → m ≡ liveBodies w id clock →
+      All (λ u. eqb id (u .key) ≡ true → m ≡ liveCount (limitsOf w .ttl) clock (u .label) es) held
+  held-seen id clock m seen =
+      all-map (λ u. eqb (labelOrNone (labelOf id held)) (u .label) ≡ eqb id (u .key)) _
+      (λ u alone key. seen
+      ∙ ap (λ (k : ℕ). liveCount (limitsOf w .ttl) clock k es)
+      (eqb-true (labelOrNone (labelOf id held)) (u .label) (alone ∙ key))) held (held-alone id)
 
   pub within : Within (length b) es
   within =

@@ -7,6 +7,7 @@ use Prim.Native.Nat.{ℕ, _+_, _≤_, _<_}
 use lib.Dec.{eqb, leb, ltb}
 use lib.ListN.{length, getD, set, take, drop, replicate}
 use Rattle.config.specs.declared.Ttl.{Ttl}
+use Rattle.config.specs.declared.Ttl.the-variants.{None, After}
 use Rattle.config.specs.declared.PendingFlowsConfig.{PendingFlowsConfig}
 use Rattle.config.proofs.Lists.{All}
 use Rattle.table.specs.declared.Entry.{Entry}
@@ -18,8 +19,9 @@ use Rattle.table.specs.declared.LabelFound.the-variants as Label
 use Rattle.table.specs.Layout.{limitsOf, heldCount}
 use Rattle.table.specs.Table.{tableOf, tally}
 use Rattle.table.specs.Passes.{firstLabel}
-use Rattle.table.specs.Reads.{labelOf, labelOrNone, countOf, liveCount}
+use Rattle.table.specs.Reads.{recordOf, labelOf, labelOrNone, countOf, liveCount}
 use Rattle.table_entries.specs.declared.StayTest.{StayTest}
+use Rattle.table_entries.specs.Stays.{stays}
 use Rattle.table_entries.specs.Sums.{summed}
 use Rattle.table_entries.specs.Sweep.{swept}
 use Rattle.table_records.specs.Choose.{skipAll, skipping, liveRecords, firstLive}
@@ -63,6 +65,20 @@ FoundHas P Record.Nothing = Unit {0}
 abbrev pub CountRight : List Entry → RecordFound → Type 0
 CountRight es x = FoundHas (λ r. r .count ≡ tally (r .label) es) x
 
+-- how many live bodies an id has
+abbrev pub liveBodies : List ℕ → ℕ → ℕ → ℕ
+liveBodies w id clock =
+    liveCount (limitsOf w .ttl) clock (labelOrNone (labelOf id (tableOf w .held))) (tableOf w .entries)
+
+-- as many, where a record was found, and else none
+abbrev pub liveFound : ℕ → RecordFound → ℕ
+liveFound live (Record.At r) = live
+liveFound live Record.Nothing = 0
+
+-- Where the id has a record among these, it has so many live bodies.
+pub record LiveSeen (id live : ℕ) (ttl : Ttl) (clock : ℕ) (rs : List TemplateRecord) (es : List Entry) : Type 0 where
+  pub counted : FoundHas (λ r. live ≡ liveCount ttl clock (r .label) es) (recordOf id rs)
+
 -- Each record has bodies, its count is right, and its live bodies are few enough to be summed.
 pub record LiveRead (ttl : Ttl) (clock : ℕ) (rs : List TemplateRecord) (es : List Entry) : Type 0 where
   pub some : All (λ r. 0 < r .count) rs
@@ -104,6 +120,12 @@ pub record NothingGoes (evicted chance : ℕ) (d : Decision) : Type 0 where
   pub one-id : d .all ≡ false
   pub none-expired : d .live ≡ true
 
+-- whether it is certain that no body goes as expired, where so many of the id's bodies are live and its record has this
+-- count
+unfoldable pub noneExpires : Ttl → Bool → ℕ → ℕ → Bool
+noneExpires None all count live = true
+noneExpires (After ttl) all count live = not all && eqb count live
+
 -- which bodies stay by themselves
 abbrev pub planTest : PendingFlowsConfig → ℕ → OfferPlan → StayTest
 planTest l clock r = record {
@@ -125,6 +147,10 @@ abbrev pub KeepsAll : List ℕ → ℕ → OfferPlan → Type 0
 KeepsAll w clock r =
     r .none ≡ true → swept (planTest (limitsOf w) clock r) (skipOf w r) (tableOf w .entries) ≡ tableOf w .entries
 
+-- where the plan says that no body goes as expired, each stays by itself
+abbrev pub StayWhole : List ℕ → ℕ → OfferPlan → Type 0
+StayWhole w clock r = r .whole ≡ true → All (λ e. stays (planTest (limitsOf w) clock r) e ≡ true) (tableOf w .entries)
+
 -- The plan is the model's for a body of this length: the verdict, and what is left of each template's bodies.
 -- Nothing of what is handed out stays.
 pub record Plans (w b : List ℕ) (id len clock : ℕ) (r : OfferPlan) : Type 0 where
@@ -140,3 +166,4 @@ pub record Plans (w b : List ℕ) (id len clock : ℕ) (r : OfferPlan) : Type 0 
   pub ends-chance : All (λ u. getD (skipOf w r) (u .label) 0 ≡ skipAll) (tableOf w .handed)
   pub few : r .evicted ≤ heldCount w
   pub keeps-all : KeepsAll w clock r
+  pub stay-whole : StayWhole w clock r

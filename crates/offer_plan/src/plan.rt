@@ -6,12 +6,12 @@ ghost use lib.ListN.{length, replicate};
 ghost use Rattle.config.specs.Limits.{recordWords, entryWords};
 ghost use Rattle.table.specs.Layout.{limitsOf, heldCount, entriesAt};
 ghost use Rattle.table.specs.Table.{entriesFrom, recordsFrom};
-ghost use Rattle.table.specs.Reads.{labelIn};
+ghost use Rattle.table.specs.Reads.{labelIn, labelOrNone};
 ghost use Rattle.table.specs.WellFormed.{wellFormed};
 ghost use Rattle.pending_flows.specs.Header.{figuresAt};
-ghost use Rattle.offer_plan.specs.Plan.{liveSums, liveIn, CountRight};
+ghost use Rattle.offer_plan.specs.Plan.{liveSums, liveFound, liveBodies, LiveSeen};
 ghost use Rattle.offer_plan.specs.Plan.{LiveRead, othersFill, firstEvicted, firstOfFull, Decides, NothingGoes};
-ghost use Rattle.offer_plan.specs.Plan.{skipOf, Plans};
+ghost use Rattle.offer_plan.specs.Plan.{noneExpires, skipOf, Plans};
 use super::evictions::evictions_for;
 use super::live_tests::live_test;
 use config::PendingFlowsConfig;
@@ -22,8 +22,6 @@ use table::LABELS;
 use table::RecordFound;
 use table::count_in;
 use table::first_label;
-use table::label_for;
-use table::live_count;
 use table::record_of;
 use table::records_at;
 use table_entries::sums_by_label;
@@ -36,13 +34,15 @@ use table_records::skip_records;
 const SKIP_ALL: u32 = 262144;
 
 // What an offer decides: whether the template is full (20), the id's label (1,024 where the id is not held), whether
-// expired bodies of all ids go or only the id's, whether it is certain that nothing goes, how many least recent
-// templates go for their bytes, and the label of the one that goes for room (1,024 where none does).
+// expired bodies of all ids go or only the id's, whether it is certain that nothing goes, and that no body goes as
+// expired, how many least recent templates go for their bytes, and the label of the one that goes for room (1,024 where
+// none does).
 pub struct OfferPlan {
     pub full: bool,
     pub label: u64,
     pub all: bool,
     pub none: bool,
+    pub whole: bool,
     pub evicted: usize,
     pub first: u64,
 }
@@ -56,20 +56,14 @@ struct Decision {
     first: u64,
 }
 
-// How many live bodies the record that was found has. With no time to live none is expired, and its count says how
-// many.
-fn live_in(words: &[u64], entries: usize, ttl: Ttl, clock: u64, found: RecordFound) -> usize
-    requires { ⌜ entriesAt + entryWords * entries ≤ length (now words) ⌝ }
-    requires { ⌜ CountRight (entriesFrom (now words) entriesAt entries) found ⌝ }
-    ensures { λ r. ⌜ r ≡ liveIn ttl clock (entriesFrom (now (words .entry)) entriesAt entries) found ⌝ }
+// How many live bodies the record that was found has, where the id has so many.
+fn live_in(found: RecordFound, live: usize) -> usize
+    ensures { λ r. ⌜ r ≡ liveFound live found ⌝ }
 {
-    let RecordFound::At(template) = found else {
-        return 0;
-    };
-    let Ttl::After(_) = ttl else {
-        return template.count as usize;
-    };
-    live_count(words, entries, template.label, ttl, clock)
+    match found {
+        RecordFound::At(_) => live,
+        RecordFound::Nothing => 0,
+    }
 }
 
 // Whether the records but the one that was found are as many as there may be.
@@ -138,8 +132,8 @@ fn oldest_evicted(
     first_evicted(words, from, records, limits.max_pending_flows, &live)
 }
 
-// Steps 3 to 5, by the records that step 2 leaves and the entries. The live bodies of other ids are looked at only
-// where a new id finds no room.
+// Steps 3 to 5, by the records that step 2 leaves, the id's live bodies, and the entries: those of other ids are looked
+// at only where a new id finds no room.
 fn decide(
     words: &[u64],
     limits: PendingFlowsConfig,
@@ -148,24 +142,26 @@ fn decide(
     records: usize,
     id: u64,
     clock: u64,
+    live: usize,
 ) -> Decision
     requires { ⌜ entriesAt + entryWords * entries ≤ length (now words) ⌝ }
     requires { ⌜ from + recordWords * records ≤ length (now words) ⌝ }
     requires { ⌜ LiveRead (limits .ttl) clock (recordsFrom (now words) from records) (entriesFrom (now words) entriesAt
         entries) ⌝ }
+    requires { ⌜ LiveSeen id live (limits .ttl) clock (recordsFrom (now words) from records) (entriesFrom (now words)
+        entriesAt entries) ⌝ }
     ensures { λ r.
         ⌜ Decides limits id (liveSums (limits .ttl) clock (entriesFrom (now (words .entry)) entriesAt entries))
         (recordsFrom (now (words .entry)) from records) r ⌝ }
 {
-    let ttl = limits.ttl;
     let found = record_of(words, from, records, id);
-    let here = live_in(words, entries, ttl, clock, found);
-    let live = (here as u64) == count_in(found);
+    let here = live_in(found, live);
+    let fresh = (here as u64) == count_in(found);
     if 0 < here {
         return Decision {
             full: limits.max_entries_per_template <= here,
             all: false,
-            live,
+            live: fresh,
             first: LABELS as u64,
         };
     }
@@ -174,14 +170,14 @@ fn decide(
         return Decision {
             full: false,
             all: true,
-            live,
+            live: fresh,
             first,
         };
     }
     Decision {
         full: false,
         all: false,
-        live,
+        live: fresh,
         first: LABELS as u64,
     }
 }
@@ -203,7 +199,31 @@ fn nothing_goes(evicted: usize, chance: u64, decision: Decision) -> bool
     decision.live
 }
 
-// What an offer of a body of this length decides.
+// The label of a record that was found; of none, what is no label.
+fn label_in(found: RecordFound) -> u64
+    ensures { λ r. ⌜ r ≡ labelOrNone (labelIn found) ⌝ }
+{
+    match found {
+        RecordFound::At(template) => template.label,
+        RecordFound::Nothing => LABELS as u64,
+    }
+}
+
+// Whether it is certain that no body goes as expired: with no time to live, or where only the id's bodies can and as
+// many of them are live as its record counts.
+fn none_expires(ttl: Ttl, all: bool, count: u64, live: usize) -> bool
+    ensures { λ r. ⌜ r ≡ noneExpires ttl all count live ⌝ }
+{
+    let Ttl::After(_) = ttl else {
+        return true;
+    };
+    if all {
+        return false;
+    }
+    count == (live as u64)
+}
+
+// What an offer of a body of this length decides, where the id has so many live bodies.
 pub fn plan_offer(
     words: &[u64],
     bytes: &[u8],
@@ -212,9 +232,11 @@ pub fn plan_offer(
     id: u64,
     len: usize,
     clock: u64,
+    live: usize,
 ) -> OfferPlan
     requires { ⌜ (wellFormed (now words) (length (now bytes)) ≡ true) × (limits ≡ limitsOf (now words)) ⌝ }
     requires { ⌜ (figures ≡ figuresAt (now words)) × (len ≤ limits .«max_total_bytes») ⌝ }
+    requires { ⌜ live ≡ liveBodies (now words) id clock ⌝ }
     ensures { λ r. ⌜ Plans (now (words .entry)) (now (bytes .entry)) id len clock r ⌝ }
 {
     let from = records_at(limits);
@@ -223,12 +245,15 @@ pub fn plan_offer(
     let stay = from + RECORD_WORDS * evicted;
     let left = held - evicted;
     let entries = figures.entries as usize;
-    let decision = decide(words, limits, entries, stay, left, id, clock);
+    let decision = decide(words, limits, entries, stay, left, id, clock, live);
+    let own = record_of(words, from, held, id);
+    let ttl = limits.ttl;
     OfferPlan {
         full: decision.full,
-        label: label_for(words, from, held, id),
+        label: label_in(own),
         all: decision.all,
         none: nothing_goes(evicted, figures.chance, decision),
+        whole: none_expires(ttl, decision.all, count_in(own), live),
         evicted,
         first: decision.first,
     }

@@ -29,6 +29,7 @@ use Rattle.pending_calls.specs.Removal.{everything}
 use Rattle.template_removal.specs.Packing.{RemovesPacking}
 use Rattle.template_removal.proofs.TemplateRemoved.{swept-is}
 use Rattle.offer_plan.specs.declared.plan.OfferPlan.{OfferPlan}
+use Rattle.offer_plan.specs.Plan.{StayWhole}
 use Rattle.planned_removal.specs.Alone.{GoesAlone}
 use Rattle.planned_removal.specs.Planned.{RemovesPlanned}
 use Rattle.planned_removal.proofs.AloneGoing.{alone-removed}
@@ -101,17 +102,17 @@ module _ (w b : List ℕ) (ok : wellFormed w (length b) ≡ true) {f : HeaderFig
   total-few = rw limits (legal .limits-legal .total-small)
 
   pub packed-for : (clock apart label len : ℕ) (plan : OfferPlan) {w′ b′ : List ℕ} {r : Removed} →
-      (label < 1024 → GoesAlone w plan label) → label < 1024 →
+      StayWhole w clock plan → (label < 1024 → GoesAlone w plan label) → label < 1024 →
       EndsPast label len (l .«max_total_bytes») (f .entries) w →
       RemovesPacking everything apart (set (replicate 1024 0) label skipAll) w b w′ b′ r →
       RemovesForBody clock plan apart len w b w′ b′ r
-  packed-for clock apart label len plan {r = r} alone small ends done =
+  packed-for clock apart label len plan {r = r} stay alone small ends done =
       let are : entriesFrom (done .unpacked) entriesAt (r .entries)
       ≡ keptBy (otherThan label) (entriesFrom w entriesAt (entryCount w)) =
       done .removes .entries ∙ swept-is w (length b) ok label apart in
       let past = rw (figures, limits) at (past-kept label len (l .«max_total_bytes») (f .entries) w ends) in
       record {
         unpacked = done .unpacked;
-        removes = alone-removed w b ok clock apart label plan alone small (done .removes);
+        removes = alone-removed w b ok clock apart label plan stay alone small (done .removes);
         left = inr (record { past = rw are past; packs = done .packs });
       }

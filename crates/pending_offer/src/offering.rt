@@ -11,7 +11,7 @@ ghost use Rattle.cache_model.specs.Offer.{offered};
 ghost use Rattle.pending_flows.specs.Header.{figuresAt};
 ghost use Rattle.pending_flows.specs.View.{areasOf, cacheOf};
 ghost use Rattle.pending_calls.specs.Promises.{Does};
-ghost use Rattle.offer_plan.specs.Plan.{Plans};
+ghost use Rattle.offer_plan.specs.Plan.{Plans, liveBodies};
 ghost use Rattle.pending_offer.specs.Promises.{bodyOf, Offers, DoesOffer};
 use config::PendingFlowsConfig;
 use offer_plan::OfferPlan;
@@ -27,6 +27,8 @@ use pending_flows::figures_at;
 use planned_removal::remove_planned;
 use table::LABELS;
 use table::limits_at;
+use table_watch::Sought;
+use table_watch::TableSeen;
 
 // Why a body is not accepted. Number 21 is none of them: no offer can reach it.
 pub enum OfferRefusal {
@@ -120,10 +122,18 @@ fn turn_down(
     );
 }
 
-// Offers a body that is not too long to a well-formed cache.
-fn offer_body(words: &mut [u64], bytes: &mut [u8], id: u64, body: &[u8], clock: u64) -> OfferAnswer
+// Offers a body that is not too long to a well-formed cache, in which the id has so many live bodies.
+fn offer_body(
+    words: &mut [u64],
+    bytes: &mut [u8],
+    id: u64,
+    body: &[u8],
+    clock: u64,
+    live: usize,
+) -> OfferAnswer
     requires { ⌜ (wellFormed (now words) (length (now bytes)) ≡ true) × (id < 65536) ⌝ }
     requires { ⌜ length (now body) ≤ limitsOf (now words) .«max_entry_size_bytes» ⌝ }
+    requires { ⌜ live ≡ liveBodies (now words) id clock ⌝ }
     ensures { λ r.
         ⌜ DoesOffer id (now (body .entry)) clock (cacheOf (tableOf (now (words .entry))) (now (bytes .entry)))
         (areasOf (now (words .entry)) (now (bytes .entry))) r (areasOf (now (words .exit)) (now (bytes .exit))) ⌝ }
@@ -131,7 +141,7 @@ fn offer_body(words: &mut [u64], bytes: &mut [u8], id: u64, body: &[u8], clock: 
     let limits = limits_at(words);
     let figures = figures_at(words);
     let len = body.len();
-    let plan = plan_offer(words, bytes, limits, figures, id, len, clock);
+    let plan = plan_offer(words, bytes, limits, figures, id, len, clock, live);
     if plan.full {
         turn_down(words, bytes, limits, figures, plan, id, body, clock);
         return OfferAnswer::Refused(OfferRefusal::TemplateFull);
@@ -140,9 +150,17 @@ fn offer_body(words: &mut [u64], bytes: &mut [u8], id: u64, body: &[u8], clock: 
     OfferAnswer::Cached
 }
 
-// Offers a body to a well-formed cache.
-fn offer(words: &mut [u64], bytes: &mut [u8], id: u64, body: &[u8], clock: u64) -> OfferAnswer
+// Offers a body to a well-formed cache, in which the id has so many live bodies.
+fn offer(
+    words: &mut [u64],
+    bytes: &mut [u8],
+    id: u64,
+    body: &[u8],
+    clock: u64,
+    live: usize,
+) -> OfferAnswer
     requires { ⌜ (wellFormed (now words) (length (now bytes)) ≡ true) × (id < 65536) ⌝ }
+    requires { ⌜ live ≡ liveBodies (now words) id clock ⌝ }
     ensures { λ r.
         ⌜ DoesOffer id (now (body .entry)) clock (cacheOf (tableOf (now (words .entry))) (now (bytes .entry)))
         (areasOf (now (words .entry)) (now (bytes .entry))) r (areasOf (now (words .exit)) (now (bytes .exit))) ⌝ }
@@ -151,7 +169,7 @@ fn offer(words: &mut [u64], bytes: &mut [u8], id: u64, body: &[u8], clock: u64) 
         count_drop(words);
         return OfferAnswer::Refused(OfferRefusal::TooLong);
     }
-    offer_body(words, bytes, id, body, clock)
+    offer_body(words, bytes, id, body, clock, live)
 }
 
 // Offers a body: it is cached, or turned down. Either way other bodies may go.
@@ -160,8 +178,12 @@ pub fn cache(words: &mut [u64], bytes: &mut [u8], id: u16, body: &[u8], clock: u
         ⌜ Offers id (now (body .entry)) clock (areasOf (now (words .entry)) (now (bytes .entry))) r
         (areasOf (now (words .exit)) (now (bytes .exit))) ⌝ }
 {
-    if table_check::well_formed(words, bytes.len()) {
-        return offer(words, bytes, id as u64, body, clock);
-    }
-    OfferAnswer::Refused(OfferRefusal::Damaged)
+    let live = Sought::Live {
+        id: id as u64,
+        clock,
+    };
+    let TableSeen::WellFormed(seen) = table_check::examine(words, bytes.len(), live) else {
+        return OfferAnswer::Refused(OfferRefusal::Damaged);
+    };
+    offer(words, bytes, id as u64, body, clock, seen.live)
 }

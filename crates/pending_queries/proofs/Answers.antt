@@ -17,10 +17,9 @@ use Rattle.table.specs.Layout.{limitsOf}
 use Rattle.table.specs.Table.{tableOf, tally}
 use Rattle.table.specs.WellFormed.{wellFormed}
 use Rattle.table.specs.Reads.{labelOf, labelOrNone}
-use Rattle.table_watch.specs.Watch.{watchFor, seenBy}
 use Rattle.table_check.specs.Examined.{examined}
-use Rattle.table_watch.proofs.Verdicts.{is-damaged, is-legal, is-seen}
-use Rattle.table_watch.proofs.LiveWatch.{watched-live}
+use Rattle.table_watch.proofs.Verdicts.{is-damaged, is-legal}
+use Rattle.table_check.proofs.LiveSeen.{live-counted}
 use Rattle.cache_model.specs.Bodies.{keep, bodiesOf, expired}
 use Rattle.cache_model.specs.Cache.{Cache, Answer, number, says}
 use Rattle.cache_model.specs.Queries.{wouldAccept}
@@ -82,10 +81,8 @@ module _ (w b : List ℕ) (id len clock : ℕ) {x : TableSeen} {s : LabelSeen} {
 
   live-right : s .live ≡ length (keep (λ y. not (expired (limitsOf w .ttl) clock y))
       (bodiesOf id (cacheOf (tableOf w) b .held)))
-  unfolding seenBy watchFor
   live-right =
-      ap (λ (y : LabelSeen). y .live) (is-seen (wellFormed w (length b)) _ tested seen)
-      ∙ watched-live (labelOrNone (labelOf id (tableOf w .held))) (limitsOf w .ttl) clock (tableOf w .entries) unused
+      live-counted w (length b) id clock tested seen unused
       ∙ live-bodies b (limitsOf w .ttl) clock (labelOrNone (labelOf id (tableOf w .held))) (tableOf w .entries)
       ∙ rw (found-bodies b id (tableOf w .entries) (tableOf w .held) unused)
 

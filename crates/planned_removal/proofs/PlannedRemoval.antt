@@ -1,14 +1,13 @@
 -- The planned removal, with the limits and the figures that were read. Assumes nothing.
 use mathlib.Core.Path.{_≡_, refl, sym, ap, _∙_}
-use mathlib.Core.Bool.{true, and-false}
+use mathlib.Core.Bool.{true}
 use mathlib.Core.List.{List, [], _∷_}
 use Prim.Native.Nat.{ℕ, zero, suc, _+_, _≤_, _<_}
 use native.Mathlib.Omega.{arith}
 use lib.ListN.{length, getD, set, take, replicate, take-append-drop, getD-replicate}
-use Rattle.config.specs.declared.Ttl.the-variants.{None}
 use Rattle.config.specs.declared.PendingFlowsConfig.{PendingFlowsConfig}
 use Rattle.config.proofs.Limits.{cap-small}
-use Rattle.config.proofs.Lists.{All, all-map}
+use Rattle.config.proofs.Lists.{All, all-map, all-both}
 use Rattle.table.specs.declared.Entry.{Entry}
 use Rattle.table.specs.declared.TemplateRecord.{TemplateRecord}
 use Rattle.table.specs.Layout.{limitsOf, heldCount, recordsAt}
@@ -19,6 +18,7 @@ use Rattle.table_entries.specs.declared.StayTest.{StayTest}
 use Rattle.table_entries.specs.Stays.{stays}
 use Rattle.table_entries.proofs.LabelSums.{zeros}
 use Rattle.table_entries.proofs.Swept.{swept-alike}
+use Rattle.table_view.proofs.AllStay.{unaged-stay}
 use Rattle.table_records.specs.Choose.{skipAll, setEach, skipping}
 use Rattle.pending_flows.specs.declared.header.HeaderFigures.{HeaderFigures}
 use Rattle.pending_flows.specs.Header.{figuresAt}
@@ -26,8 +26,9 @@ use Rattle.pending_calls.specs.declared.removal.Removed.{Removed}
 use Rattle.pending_calls.specs.Removal.{everything, SkipsWhole, Removes, RemovesFrom}
 use Rattle.pending_calls.proofs.NoneRemoved.{removes-alike, all-swept-stay}
 use Rattle.offer_plan.specs.declared.plan.OfferPlan.{OfferPlan}
-use Rattle.offer_plan.specs.Plan.{planTest, skipOf, KeepsAll}
+use Rattle.offer_plan.specs.Plan.{planTest, skipOf, KeepsAll, StayWhole}
 use Rattle.offer_plan.proofs.Skips.{skips-long}
+use Rattle.offer_plan.proofs.Tables.{short}
 use Rattle.planned_removal.specs.Planned.{RemovesPlanned}
 
 module _ (w : List ℕ) (n : ℕ) (ok : wellFormed w n ≡ true) (clock apart : ℕ) (plan : OfferPlan) {w′ : List ℕ}
@@ -90,20 +91,16 @@ module _ (w b : List ℕ) (ok : wellFormed w (length b) ≡ true) (clock apart :
             (λ r h some. omega (arith, planned-at (r .label) (h .label-small) some, h .within-cap)) (records w) all;
       })
 
-  -- with no time to live every body stays by itself
-  stays-alike : limitsOf w .ttl ≡ None → (e : Entry) → stays everything e ≡ stays (planTest (limitsOf w) clock plan) e
-  unfolding stays
-  stays-alike none e = rw (none, and-false, and-false)
-
-  pub whole-planned : {l : PendingFlowsConfig} {skip w′ : List ℕ} {r : Removed} → l ≡ limitsOf w → l .ttl ≡ None →
+  pub whole-planned : {skip w′ : List ℕ} {r : Removed} → StayWhole w clock plan → plan .whole ≡ true →
       skip ≡ skipOf w plan →
       RemovesFrom everything apart skip w w′ r →
       RemovesPlanned clock plan apart w w′ r
-  whole-planned limits none skips done =
-      let ttl : limitsOf w .ttl ≡ None = ap (λ (c : PendingFlowsConfig). c .ttl) (sym limits) ∙ none in
-      removes-alike
-      (swept-alike everything (planTest (limitsOf w) clock plan) (stays-alike ttl) (skipOf w plan) (tableOf w .entries))
-      (rw skips at done)
+  whole-planned stay whole skips done =
+      let q = planTest (limitsOf w) clock plan in
+      let es = tableOf w .entries in
+      let alike = all-both (λ e. stays everything e ≡ true) (λ e. stays q e ≡ true) (λ e. stays everything e ≡ stays q e)
+      (λ e x y. x ∙ sym y) es (unaged-stay everything es refl (short w b ok)) (stay whole) in
+      removes-alike (swept-alike everything q (skipOf w plan) es alike) (rw skips at done)
 
 -- where nothing goes, nothing is handed out
 pub none-chance : (plan : OfferPlan) (f : HeaderFigures) → (plan .none ≡ true → f .chance ≡ 0) → plan .none ≡ true →

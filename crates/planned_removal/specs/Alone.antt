@@ -1,19 +1,17 @@
 -- The plans of an offer by which one template goes, whole, and nothing else, or expired bodies of one.
 use mathlib.Core.Path.{_≡_}
-use mathlib.Core.Bool.{false}
+use mathlib.Core.Bool.{true, false}
 use mathlib.Core.List.{List}
 use Prim.Native.Nat.{ℕ, _≤_}
 use lib.ListN.{set, replicate}
-use Rattle.config.specs.declared.Ttl.the-variants.{None}
-use Rattle.table.specs.Layout.{limitsOf}
 use Rattle.table_records.specs.Choose.{skipAll}
 use Rattle.pending_flows.specs.declared.header.HeaderFigures.{HeaderFigures}
 use Rattle.offer_plan.specs.declared.plan.OfferPlan.{OfferPlan}
 use Rattle.offer_plan.specs.Plan.{skipOf}
 
--- no body is expired, and those of this label are skipped, all of them, and no others
+-- no body goes as expired, and those of this label are skipped, all of them, and no others
 pub record GoesAlone (w : List ℕ) (plan : OfferPlan) (label : ℕ) : Type 0 where
-  pub no-ttl : limitsOf w .ttl ≡ None
+  pub whole : plan .whole ≡ true
   pub skips : skipOf w plan ≡ set (replicate 1024 0) label skipAll
 
 -- nothing is handed out, no template is evicted, and only expired bodies of this label go

@@ -6,11 +6,10 @@ ghost use lib.ListN.{length};
 ghost use Rattle.table.specs.Layout.{limitsOf, heldCount};
 ghost use Rattle.table.specs.WellFormed.{wellFormed};
 ghost use Rattle.pending_flows.specs.Header.{figuresAt};
-ghost use Rattle.offer_plan.specs.Plan.{planTest, KeepsAll};
+ghost use Rattle.offer_plan.specs.Plan.{planTest, KeepsAll, StayWhole};
 ghost use Rattle.planned_removal.specs.Planned.{RemovesPlanned};
 ghost use Rattle.planned_removal.specs.Alone.{GoesAlone, OnlyExpired};
 use config::PendingFlowsConfig;
-use config::Ttl;
 use offer_plan::OfferPlan;
 use offer_plan::skip_planned;
 use pending_calls::Removed;
@@ -39,8 +38,7 @@ fn stay_test(limits: PendingFlowsConfig, clock: u64, plan: OfferPlan) -> StayTes
     }
 }
 
-// Sweeps by the plan, and closes. The record of the label `apart` goes though its bodies stay. With no time to live,
-// only whole templates go.
+// Sweeps by the plan, and closes. The record of the label `apart` goes though its bodies stay.
 fn remove_skipped(
     words: &mut [u64],
     bytes: &[u8],
@@ -52,15 +50,15 @@ fn remove_skipped(
 ) -> Removed
     requires { ⌜ (wellFormed (now words) (length (now bytes)) ≡ true) × (limits ≡ limitsOf (now words)) ⌝ }
     requires { ⌜ (figures ≡ figuresAt (now words)) × (plan .evicted ≤ heldCount (now words)) ⌝ }
+    requires { ⌜ StayWhole (now words) clock plan ⌝ }
     ensures { λ r.
         ⌜ RemovesPlanned clock plan apart (now (words .entry)) (now (words .exit)) r ⌝ }
 {
     let mut skip = [0u32; LABELS];
     skip_planned(words, bytes, limits, figures, plan, &mut skip);
-    let ttl = limits.ttl;
-    let Ttl::After(_) = ttl else {
+    if plan.whole {
         return remove_whole(words, bytes, limits, figures, &mut skip, apart);
-    };
+    }
     let records = (figures.templates + figures.chance) as usize;
     remove(
         words,
@@ -73,8 +71,8 @@ fn remove_skipped(
     )
 }
 
-// With no time to live and nothing handed out: the label of the one template that goes, where no other does; else what
-// is no label.
+// Where nothing is handed out and no body goes as expired: the label of the one template that goes, where no other does;
+// else what is no label.
 pub fn alone_label(
     words: &[u64],
     bytes: &[u8],
@@ -86,10 +84,9 @@ pub fn alone_label(
     requires { ⌜ figures ≡ figuresAt (now words) ⌝ }
     ensures { λ r. ⌜ (r < 1024 → GoesAlone (now (words .entry)) plan r) ⌝ }
 {
-    let ttl = limits.ttl;
-    let Ttl::None = ttl else {
+    if !plan.whole {
         return LABELS as u64;
-    };
+    }
     if figures.chance != 0 {
         return LABELS as u64;
     }
@@ -137,6 +134,7 @@ fn remove_some(
 ) -> Removed
     requires { ⌜ (wellFormed (now words) (length (now bytes)) ≡ true) × (limits ≡ limitsOf (now words)) ⌝ }
     requires { ⌜ (figures ≡ figuresAt (now words)) × (plan .evicted ≤ heldCount (now words)) ⌝ }
+    requires { ⌜ StayWhole (now words) clock plan ⌝ }
     ensures { λ r.
         ⌜ RemovesPlanned clock plan apart (now (words .entry)) (now (words .exit)) r ⌝ }
 {
@@ -163,6 +161,7 @@ pub fn remove_planned(
     requires { ⌜ (wellFormed (now words) (length (now bytes)) ≡ true) × (limits ≡ limitsOf (now words)) ⌝ }
     requires { ⌜ (figures ≡ figuresAt (now words)) × (plan .evicted ≤ heldCount (now words)) ⌝ }
     requires { ⌜ KeepsAll (now words) clock plan × (plan .none ≡ true → figures .chance ≡ 0) ⌝ }
+    requires { ⌜ StayWhole (now words) clock plan ⌝ }
     ensures { λ r.
         ⌜ RemovesPlanned clock plan apart (now (words .entry)) (now (words .exit)) r ⌝ }
 {

@@ -58,13 +58,13 @@ placed-swept q skip from most (e ∷ es) p =
     (λ _ _. lower (swept q (lessAt skip (e .label)) es) (placed-swept q (lessAt skip (e .label)) end most es (p .2)))
     (λ _ _. (p .0, p .1, placed-swept q skip end most es (p .2)))
 
--- two tests that agree keep the same
-pub swept-alike : (q q′ : StayTest) → ((e : Entry) → stays q e ≡ stays q′ e) → (skip : List ℕ) (es : List Entry) →
+-- two tests that agree on the entries keep the same
+pub swept-alike : (q q′ : StayTest) (skip : List ℕ) (es : List Entry) → All (λ e. stays q e ≡ stays q′ e) es →
     swept q skip es ≡ swept q′ skip es
 unfolding swept
-swept-alike q q′ same skip [] = refl
-swept-alike q q′ same skip (e ∷ es) =
-    rw (same e, swept-alike q q′ same (lessAt skip (e .label)) es, swept-alike q q′ same skip es)
+swept-alike q q′ skip [] same = refl
+swept-alike q q′ skip (e ∷ es) same =
+    rw (same .0, swept-alike q q′ (lessAt skip (e .label)) es (same .1), swept-alike q q′ skip es (same .1))
 
 -- where each stays and none is to be skipped, all are kept
 pub swept-all : (q : StayTest) (skip : List ℕ) (es : List Entry) → All (λ e. stays q e ≡ true) es →

@@ -1,6 +1,6 @@
 -- Where every entry stays: the sweep keeps them all. Assumes nothing.
 use mathlib.Core.Path.{_≡_, refl}
-use mathlib.Core.Bool.{Bool, true, false, not, _&&_, cond, and-false}
+use mathlib.Core.Bool.{Bool, true, false, not, _&&_, _||_, cond, and-false}
 use mathlib.Core.List.{List, [], _∷_}
 use Prim.Native.Nat.{ℕ, suc, _+_, _≤_, _<_}
 use native.Mathlib.Omega.{arith}
@@ -79,6 +79,14 @@ all-stay q es one fresh short =
     (λ e. e .len ≤ q .«max_size») (λ e. stays q e ≡ true)
     (λ e x y. rw (one, x) (le-leb (e .len) (q .«max_size») y)) es fresh short
 
+-- with no time to live, every entry that is not too large
+pub unaged-stay : (q : StayTest) (es : List Entry) → q .ttl ≡ None → All (λ e. e .len ≤ q .«max_size») es →
+    All (λ e. stays q e ≡ true) es
+unfolding stays
+unaged-stay q es none short =
+    all-map (λ e. e .len ≤ q .«max_size») (λ e. stays q e ≡ true)
+    (λ e h. rw (none, and-false (q .all || eqb (q .label) (e .label))) (le-leb (e .len) (q .«max_size») h)) es short
+
 -- nothing is skipped
 pub none-skipped : (q : StayTest) (es : List Entry) → All (λ e. e .label < 1024) es → All (λ e. stays q e ≡ true) es →
     swept q zeros es ≡ es
@@ -89,13 +97,9 @@ none-skipped q es small stay =
 
 -- ---- every entry stays
 
-everything-stays-by : (e : Entry) → e .len ≤ lenMost → stays everything e ≡ true
-unfolding stays
-everything-stays-by e h = rw (and-false (eqb 1024 (e .label))) (le-leb (e .len) lenMost h)
-
 module _ {rs : List TemplateRecord} {es : List Entry} {is : List ℕ} (tied : Tied rs es is)
     (short : All (λ e. e .len ≤ lenMost) es) where
   pub everything-swept : swept everything zeros es ≡ es
   everything-swept =
       none-skipped everything es (entries-small rs es (tied .labels-small) (tied .labels-known))
-      (all-map (λ e. e .len ≤ lenMost) (λ e. stays everything e ≡ true) everything-stays-by es short)
+      (unaged-stay everything es refl short)

@@ -1,14 +1,9 @@
+use borrow.Author.Tests.{not-false}
 use borrow.Author.Needs.{needs}
 use Rattle.pending_flows.proofs.Questions.{bodies-few}
 use Rattle.planned_removal.proofs.AloneGoing.{none-alone, room-alone, least-alone, held-inside}
 use Rattle.planned_removal.proofs.alone_label.Statement.{statement}
 use Rattle.planned_removal.proofs.alone_label.Tie as tie
-
-enum-told : tie.Need-enum-told
-enum-told c = search needs
-
-enum-told-2 : tie.Need-enum-told-2
-enum-told-2 c = search needs
 
 returns : tie.Need-returns
 returns c = search (none-alone, needs)
@@ -17,7 +12,7 @@ returns-2 : tie.Need-returns-2
 returns-2 c = search (none-alone, needs)
 
 returns-3 : tie.Need-returns-3
-returns-3 c = search (room-alone, needs)
+returns-3 c = search (room-alone, not-false, needs)
 
 returns-4 : tie.Need-returns-4
 returns-4 c = search (none-alone, needs)
@@ -32,14 +27,12 @@ first-label-requires : tie.Need-first-label-requires
 first-label-requires c κs = search (held-inside, needs)
 
 returns-6 : tie.Need-returns-6
-returns-6 c = search (least-alone, needs)
+returns-6 c = search (least-alone, not-false, needs)
 
 pub alone-label-spec : {M : Type 1} → statement M
 alone-label-spec =
     tie.close
     (tie.spec
-    enum-told
-    enum-told-2
     returns
     returns-2
     returns-3

@@ -8,12 +8,6 @@ use Rattle.planned_removal.proofs.remove_skipped.Tie as tie
 skip-planned-requires : tie.Need-skip-planned-requires
 skip-planned-requires c κs = search needs
 
-enum-told : tie.Need-enum-told
-enum-told c = search needs
-
-enum-told-2 : tie.Need-enum-told-2
-enum-told-2 c = search needs
-
 remove-whole-requires : tie.Need-remove-whole-requires
 remove-whole-requires c κs = (search needs, (search needs, search (planned-whole, needs)))
 
@@ -46,9 +40,9 @@ returns-2 c =
     let removed : tie.After-remove = c .before .before in
     let tested : tie.After-stay-test = removed .before .before in
     let read : tie.After-records-at = tested .before in
-    let skipped : tie.After-skip-planned = read .before .before .before .before .before in
+    let skipped : tie.After-skip-planned = read .before .before .before .before in
     let s : tie.Start = skipped .before .before .before .before .before in
-    removed-planned _ _ (s .pre .0 .0) _ _ _ _ _ _ _ _ (s .pre .1 .0) (s .pre .0 .1) (read .records-at .ensures)
+    removed-planned _ _ (s .pre .0 .0) _ _ _ _ _ _ _ _ (s .pre .1 .0 .0) (s .pre .0 .1) (read .records-at .ensures)
     (tested .stay-test .ensures) (skipped .skip-planned .ensures) (removed .remove .ensures)
 
 pub remove-skipped-spec : {M : Type 1} → statement M
@@ -56,8 +50,6 @@ remove-skipped-spec =
     tie.close
     (tie.spec
     skip-planned-requires
-    enum-told
-    enum-told-2
     remove-whole-requires
     same-length
     returns

@@ -1,5 +1,4 @@
 use borrow.Author.Needs.{needs}
-use Rattle.offer_plan.proofs.Live.{count-right}
 use Rattle.offer_plan.proofs.Steps.{held-decided, new-decided, new-full-decided}
 use Rattle.offer_plan.proofs.plan.decide.Statement.{statement}
 use Rattle.offer_plan.proofs.plan.decide.Tie as tie
@@ -8,7 +7,7 @@ record-of-requires : tie.Need-record-of-requires
 record-of-requires c κs = search needs
 
 live-in-requires : tie.Need-live-in-requires
-live-in-requires c κs = (search needs, search (count-right, needs))
+live-in-requires c κs = search needs
 
 count-in-requires : tie.Need-count-in-requires
 count-in-requires c κs = search needs

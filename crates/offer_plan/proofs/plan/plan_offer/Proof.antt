@@ -1,5 +1,6 @@
 use Rattle.offer_plan.proofs.Steps.{entries-within, bodies-few, records-within}
-use Rattle.offer_plan.proofs.Offers.{leaving-few, leaving-scaled, stay-start, stay-within, live-read, plan-done}
+use Rattle.offer_plan.proofs.Offers.{leaving-few, leaving-scaled, stay-start, stay-within, live-read, live-seen}
+use Rattle.offer_plan.proofs.Offers.{plan-done}
 use borrow.Author.Needs.{needs}
 use Rattle.offer_plan.proofs.plan.plan_offer.Statement.{statement}
 use Rattle.offer_plan.proofs.plan.plan_offer.Tie as tie
@@ -20,14 +21,25 @@ sub-left : tie.Need-sub-left
 sub-left c = search (leaving-few, needs)
 
 decide-requires : tie.Need-decide-requires
-decide-requires c κs =
-    (search (entries-within, needs), (search (stay-within, needs), search (live-read, needs)))
+decide-requires c κs = (
+  search (entries-within, needs),
+  (search (stay-within, needs), (search (live-read, needs), search (live-seen, needs))),
+)
 
-label-for-requires : tie.Need-label-for-requires
-label-for-requires c κs = search (records-within, needs)
+record-of-requires : tie.Need-record-of-requires
+record-of-requires c κs = search (records-within, needs)
+
+label-in-requires : tie.Need-label-in-requires
+label-in-requires c κs = search needs
 
 nothing-goes-requires : tie.Need-nothing-goes-requires
 nothing-goes-requires c κs = search needs
+
+count-in-requires : tie.Need-count-in-requires
+count-in-requires c κs = search needs
+
+none-expires-requires : tie.Need-none-expires-requires
+none-expires-requires c κs = search needs
 
 returns : tie.Need-returns
 returns c = search (plan-done, needs)
@@ -42,6 +54,9 @@ plan-offer-spec =
     add-stay
     sub-left
     decide-requires
-    label-for-requires
+    record-of-requires
+    label-in-requires
     nothing-goes-requires
+    count-in-requires
+    none-expires-requires
     returns)

@@ -29,7 +29,7 @@ turn-down-requires c κs =
     let pre = start plan .pre in (
       (pre .0 .0, limited plan .limits-at .ensures),
       (
-        (figured plan .figures-at .ensures, pre .1),
+        (figured plan .figures-at .ensures, pre .1 .0),
         (plan .plan-offer .ensures, c .before .before .if1 .taken),
       ),
     )
@@ -49,7 +49,7 @@ accept-requires c κs =
     let pre = start plan .pre in (
       (pre .0 .0, limited plan .limits-at .ensures),
       (
-        (figured plan .figures-at .ensures, pre .1),
+        (figured plan .figures-at .ensures, pre .1 .0),
         (plan .plan-offer .ensures, (c .before .before .if1 .left, pre .0 .1)),
       ),
     )

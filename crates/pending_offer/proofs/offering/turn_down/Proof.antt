@@ -37,7 +37,10 @@ remove-planned-requires c κs =
       s .pre .0,
       (
         (s .pre .1 .0 .0, plans .few),
-        (plans .keeps-all, none-handed _ _ (s .pre .0 .0) _ _ _ _ plans (s .pre .1 .0 .0)),
+        (
+          (plans .keeps-all, none-handed _ _ (s .pre .0 .0) _ _ _ _ plans (s .pre .1 .0 .0)),
+          plans .stay-whole,
+        ),
       ),
     )
 
