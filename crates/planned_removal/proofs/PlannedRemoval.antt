@@ -8,7 +8,6 @@ use lib.ListN.{length, getD, set, take, replicate, take-append-drop, getD-replic
 use Rattle.config.specs.declared.PendingFlowsConfig.{PendingFlowsConfig}
 use Rattle.config.proofs.Limits.{cap-small}
 use Rattle.config.proofs.Lists.{All, all-map, all-both}
-use Rattle.table.specs.declared.Entry.{Entry}
 use Rattle.table.specs.declared.TemplateRecord.{TemplateRecord}
 use Rattle.table.specs.Layout.{limitsOf, heldCount, recordsAt}
 use Rattle.table.specs.Table.{tableOf, records}

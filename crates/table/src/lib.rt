@@ -18,7 +18,6 @@ pub use reads::count_in;
 pub use reads::count_of;
 pub use reads::first_label;
 pub use reads::label_for;
-pub use reads::live_count;
 pub use reads::live_figures;
 pub use reads::record_of;
 

@@ -6,7 +6,7 @@ ghost use Rattle.config.specs.Limits.{headerWords, recordWords, entryWords};
 ghost use Rattle.table.specs.Layout.{entriesAt};
 ghost use Rattle.table.specs.Table.{entriesFrom, recordsFrom};
 ghost use Rattle.table.specs.Passes.{firstLabel};
-ghost use Rattle.table.specs.Reads.{recordOf, countIn, labelOf, labelOrNone, countOf, isLive, liveCount};
+ghost use Rattle.table.specs.Reads.{recordOf, countIn, labelOf, labelOrNone, countOf, isLive};
 ghost use Rattle.table.specs.Reads.{liveFigures};
 use super::Entry;
 use super::LABELS;
@@ -121,12 +121,4 @@ pub fn live_figures(words: &[u64], entries: usize, label: u64, ttl: Ttl, clock: 
         p += ENTRY_WORDS;
     }
     LiveFigures { bodies, bytes }
-}
-
-// How many of the entries have this label and are not expired.
-pub fn live_count(words: &[u64], entries: usize, label: u64, ttl: Ttl, clock: u64) -> usize
-    requires { ⌜ headerWords + entryWords * entries ≤ length (now words) ⌝ }
-    ensures { λ r. ⌜ r ≡ liveCount ttl clock label (entriesFrom (now (words .entry)) entriesAt entries) ⌝ }
-{
-    live_figures(words, entries, label, ttl, clock).bodies
 }
