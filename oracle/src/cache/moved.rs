@@ -30,7 +30,9 @@ struct Tally {
     staying: u64,
     /// Of these, the ones in which bodies went too. Only an offer among them can pack in its sweep.
     dropping: u64,
-    /// Of these, the ones that moved a body of this sort: up to a block or longer, by less than a
+    /// Of the last, the ones with a TTL.
+    aged: u64,
+    /// Of the moving, the ones that moved a body of this sort: up to a block or longer, by less than a
     /// block, by one, or by more.
     sorts: [[u64; 3]; 2],
 }
@@ -44,6 +46,7 @@ impl Moved {
     /// Sees where the bodies are after a call on an area of so many bytes, and whether it accepted
     /// a body.
     pub fn add(&mut self, table: &Table, state: &State<'_>, area: usize, accepts: bool) {
+        let ttl = table.limits.ttl.is_some();
         let held = table.held.iter().zip(&state.held);
         let held = held.flat_map(|(record, template)| record.bodies.iter().zip(&template.bodies));
         let handed = table.handed.iter().flat_map(|record| &record.bodies).zip(&state.handed);
@@ -70,7 +73,7 @@ impl Moved {
         let drops = bodies < self.bodies + usize::from(accepts);
         self.bodies = bodies;
         self.calls += 1;
-        self.areas[usize::from(is_long)].add(seen, stays, drops);
+        self.areas[usize::from(is_long)].add(seen, stays, drops, ttl);
     }
 
     /// How far a body went since it was last seen, where it was.
@@ -85,11 +88,12 @@ impl Moved {
 }
 
 impl Tally {
-    fn add(&mut self, seen: [[bool; 3]; 2], stays: bool, drops: bool) {
+    fn add(&mut self, seen: [[bool; 3]; 2], stays: bool, drops: bool, ttl: bool) {
         let moves = seen.as_flattened().contains(&true);
         self.moving += u64::from(moves);
         self.staying += u64::from(moves && stays);
         self.dropping += u64::from(moves && drops);
+        self.aged += u64::from(moves && drops && ttl);
         let counts = self.sorts.as_flattened_mut();
         counts.iter_mut().zip(seen.as_flattened()).for_each(|(count, &is)| *count += u64::from(is));
     }
@@ -99,14 +103,14 @@ impl fmt::Display for Moved {
     fn fmt(&self, to: &mut fmt::Formatter<'_>) -> fmt::Result {
         let areas = [("up to", BLOCK), ("above", SHORT_BLOCK)];
         for ((which, block), tally) in areas.iter().zip(&self.areas) {
-            let Tally { moving, staying, dropping, sorts } = tally;
+            let Tally { moving, staying, dropping, aged, sorts } = tally;
             if *moving == 0 {
                 continue;
             }
             let share = 100.0 * *moving as f64 / self.calls as f64;
             write!(to, "  bodies move in areas {which} {LONG_AREA} bytes: {moving} calls, ")?;
             write!(to, "{share:.4} %; in {staying} of them others before them stay, ")?;
-            writeln!(to, "in {dropping} bodies go in the same call")?;
+            writeln!(to, "in {dropping} bodies go in the same call, with a TTL in {aged}")?;
             for (length, [less, one, more]) in ["up to", "above"].iter().zip(sorts) {
                 write!(to, "    bodies of {length} {block} bytes: by less in {less} calls, ")?;
                 writeln!(to, "by {block} in {one}, by more in {more}")?;
