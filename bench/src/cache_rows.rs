@@ -174,14 +174,29 @@ pub fn print_labels(budget: Budget) {
     }
 }
 
+/// Which pages a cache lies on moves the time of a call on a large one, so each row is measured on
+/// so many caches, each for as long as one.
+const PLACES: usize = 3;
+
+fn measured(budget: Budget, shape: Shape) -> Vec<Taken> {
+    let mut sides: Vec<Taken> = Vec::new();
+    // All are kept until the end, so that no two have the same place.
+    let mut caches: Vec<Both> = (0..PLACES).map(|_| Both::new(shape)).collect();
+    for both in &mut caches {
+        let taken = interleaved(
+            budget,
+            both,
+            &mut [&mut Both::ours, &mut Both::rust, &mut Both::scalar, &mut Both::vectorised],
+        );
+        sides.resize_with(taken.len(), Taken::default);
+        sides.iter_mut().zip(taken).for_each(|(side, more)| side.join(more));
+    }
+    sides
+}
+
 /// Prints a row; gives how many scalar sums the call takes.
 fn print_row(budget: Budget, shape: Shape) -> f64 {
-    let mut both = Both::new(shape);
-    let taken = interleaved(
-        budget,
-        &mut both,
-        &mut [&mut Both::ours, &mut Both::rust, &mut Both::scalar, &mut Both::vectorised],
-    );
+    let taken = measured(budget, shape);
     let [ours, rust, scalar, vectorised] = &taken[..] else { unreachable!("four sides") };
     let [ours, rust, scalar, vectorised] = [ours, rust, scalar, vectorised].map(Taken::figure);
     let (rust_time, rust_ratio) = match shape.call {
@@ -242,6 +257,10 @@ pub fn print_moves(budget: Budget) {
             }
         }
     }
+    for (templates, bodies) in GRID.into_iter().filter(|at| at.0 > 1) {
+        let length = PACKET.min(MOST_BYTES / (bodies + 1));
+        print_move(budget, Shape::new(Call::OfferEvictsBytes, templates, bodies, true, length));
+    }
     for (bodies, length, gap) in GAPS {
         let shape = Shape::new(Call::OfferPacks, 16, bodies, false, length);
         print_move(budget, shape.with_gap(gap));
@@ -266,7 +285,8 @@ struct Moves {
 
 fn print_move(budget: Budget, shape: Shape) {
     let call = if shape.call == Call::OfferEvicts { Call::OfferNew } else { Call::OfferHeld };
-    let rests = Shape::new(call, shape.templates, shape.bodies(), false, shape.length);
+    let ttl = shape.limits.ttl.is_some();
+    let rests = Shape::new(call, shape.templates, shape.bodies(), ttl, shape.length);
     let rests = Shape { offered: shape.offered, order: shape.order, ..rests };
     let mut moving = Both::new(shape);
     let runs = moving.runs();
@@ -287,6 +307,7 @@ fn print_move(budget: Budget, shape: Shape) {
     let moved = match (shape.call, shape.order) {
         (Call::OfferPacks, _) => "all bodies, to close a gap",
         (_, Order::LeastRecentNearEnd) => "the few bodies and entries behind those evicted",
+        (Call::OfferEvictsBytes, _) if ttl => "bodies and entries not evicted, with a TTL",
         (Call::OfferEvictsBytes, _) => "bodies and entries not evicted",
         _ => "entries not evicted",
     };

@@ -141,6 +141,16 @@ impl Taken {
         }
     }
 
+    /// The rounds of both.
+    pub fn join(&mut self, other: Self) {
+        if other.whole > 0 {
+            let least = other.least_whole;
+            self.least_whole = if self.whole == 0 { least } else { least.min(self.least_whole) };
+        }
+        self.whole += other.whole;
+        self.rounds.extend(other.rounds);
+    }
+
     /// The least of the runs without an interruption; where there are hardly any, the median of
     /// all. (The least of the others is none to trust: the system's account of a thread's time is
     /// off by some microseconds, either way.)
