@@ -19,12 +19,19 @@ use Rattle.table.specs.Table.{tally}
 use Rattle.table.specs.Reads.{recordOf, labelIn, countIn, labelOf, labelOrNone, countOf, liveCount}
 use Rattle.table.proofs.Lookups.{label-told, no-label-told, count-told, no-count-told}
 use Rattle.table_view.proofs.AllStay.{none-expired}
-use Rattle.offer_plan.specs.declared.plan.Decision.{Decision}
-use Rattle.offer_plan.specs.Plan.{liveSums, liveIn, FoundHas, CountRight, liveFound, LiveRead}
-use Rattle.offer_plan.specs.Plan.{noneExpires}
-use Rattle.offer_plan.specs.Plan.{liveAt, othersFill, NothingGoes}
+use Rattle.offer_plan.specs.Plan.{liveSums, FoundHas, liveFound, LiveSeen, LiveRead, liveAt}
+use Rattle.offer_plan.specs.Plan.{othersFill, NothingGoes, noneExpires}
 
 -- ---- by what was found
+
+-- how many of these entries are live bodies of the record
+abbrev liveIn : Ttl → ℕ → List Entry → RecordFound → ℕ
+liveIn ttl clock es (Record.At r) = liveCount ttl clock (r .label) es
+liveIn ttl clock es Record.Nothing = 0
+
+-- its count is the number of entries with its label
+abbrev CountRight : List Entry → RecordFound → Type 0
+CountRight es x = FoundHas (λ r. r .count ≡ tally (r .label) es) x
 
 module _ (x : RecordFound) where
   pub found-fills : (r : TemplateRecord) (n most : ℕ) → x ≡ Record.At r → ltb most n ≡ othersFill (labelIn x) n most
@@ -32,16 +39,6 @@ module _ (x : RecordFound) where
 
   pub none-fills : (n most : ℕ) → x ≡ Record.Nothing → leb most n ≡ othersFill (labelIn x) n most
   none-fills n most f = rw f
-
-  module _ (ttl : Ttl) (clock : ℕ) (es : List Entry) where
-    pub live-found : (n : ℕ) → FoundHas (λ r. n ≡ liveCount ttl clock (r .label) es) x →
-        liveFound n x ≡ liveIn ttl clock es x
-    live-found n = by-found x
-      where
-        by-found : (y : RecordFound) → FoundHas (λ r. n ≡ liveCount ttl clock (r .label) es) y →
-            liveFound n y ≡ liveIn ttl clock es y
-        by-found (Record.At r) h = h
-        by-found Record.Nothing h = refl
 
   -- as many as the record counts
   pub all-found : (n : ℕ) → countIn x ≡ n → liveFound n x ≡ countIn x
@@ -72,8 +69,11 @@ module _ {ttl : Ttl} {clock : ℕ} {rs : List TemplateRecord} {es : List Entry} 
     has : (P : TemplateRecord → Type 0) → All P rs → FoundHas P x
     has P a = rw found (record-keyed P id rs (all-map P _ (λ r h _. h) rs a))
 
-    pub count-right : CountRight es x
+    count-right : CountRight es x
     count-right = has (λ r. r .count ≡ tally (r .label) es) (reads .counts)
+
+    live-has : FoundHas (λ r. liveCount ttl clock (r .label) es ≡ getD live (r .label) 0) x
+    live-has = has (λ r. liveCount ttl clock (r .label) es ≡ getD live (r .label) 0) (reads .live)
 
     pub label-is : labelIn x ≡ labelOf id rs
     label-is = by-found x found
@@ -89,10 +89,20 @@ module _ {ttl : Ttl} {clock : ℕ} {rs : List TemplateRecord} {es : List Entry} 
         by-found (Record.At r) f = count-told id rs f refl
         by-found Record.Nothing f = no-count-told id rs f refl
 
-    pub live-is : liveIn ttl clock es x ≡ liveAt live (labelOf id rs)
+    -- where so many live bodies of the id were seen
+    pub seen-is : (m : ℕ) → LiveSeen id m ttl clock rs es → liveFound m x ≡ liveAt live (labelOf id rs)
+    seen-is m seen =
+        by-found x (rw found (seen .counted)) live-has ∙ ap (liveAt live) label-is
+      where
+        by-found : (y : RecordFound) → FoundHas (λ r. m ≡ liveCount ttl clock (r .label) es) y →
+            FoundHas (λ r. liveCount ttl clock (r .label) es ≡ getD live (r .label) 0) y →
+            liveFound m y ≡ liveAt live (labelIn y)
+        by-found (Record.At r) s h = s ∙ h
+        by-found Record.Nothing s h = refl
+
+    live-is : liveIn ttl clock es x ≡ liveAt live (labelOf id rs)
     live-is =
-        by-found x (has (λ r. liveCount ttl clock (r .label) es ≡ getD live (r .label) 0) (reads .live))
-        ∙ ap (liveAt live) label-is
+        by-found x live-has ∙ ap (liveAt live) label-is
       where
         by-found : (y : RecordFound) →
             FoundHas (λ r. liveCount ttl clock (r .label) es ≡ getD live (r .label) 0) y →
@@ -131,7 +141,7 @@ module _ (ttl : Ttl) (all : Bool) (count live : ℕ) where
 
 -- ---- whether nothing goes
 
-module _ (evicted chance : ℕ) (d : Decision) where
-  pub certain : evicted ≤ 0 → chance ≤ 0 → d .all ≡ false → (d .live ≡ true → NothingGoes evicted chance d)
+module _ (evicted chance : ℕ) (all unaged : Bool) where
+  pub certain : evicted ≤ 0 → chance ≤ 0 → all ≡ false → (unaged ≡ true → NothingGoes evicted chance all unaged)
   certain e c a l =
       record { evicts-none = omega arith; hands-none = omega arith; one-id = a; none-expired = l }

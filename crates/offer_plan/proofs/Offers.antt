@@ -116,15 +116,23 @@ module _ (w b : List ℕ) (ok : wellFormed w (length b) ≡ true) (l : PendingFl
         Decides l id (liveSums (l .ttl) clock (entriesFrom w entriesAt (f .entries)))
         (recordsFrom w (p + recordWords * n) (f .templates - n)) d →
         x ≡ recordOf id (recordsFrom w p (f .templates)) → label ≡ labelOrNone (labelIn x) → c ≡ countIn x →
-        (v ≡ true → NothingGoes n (f .chance) d) → u ≡ noneExpires (l .ttl) (d .all) c m →
+        (v ≡ true → NothingGoes n (f .chance) (d .all) u) → u ≡ noneExpires (l .ttl) (d .all) c m →
         Plans w b id len clock
-        (record { full = d .full; label = label; all = d .all; none = v; whole = u; evicted = n; first = d .first })
+        (record {
+          full = d .full;
+          label = label;
+          all = d .all;
+          none = v;
+          «none_expired» = u;
+          evicted = n;
+          first = d .first;
+        })
     plan-done id clock label c m d x v u seen decided found labelled counted certain whole =
         let held-rows : recordsFrom w p (f .templates) ≡ tableOf w .held = rw (start, held-many) (held-are w b ok) in
         let own : x ≡ recordOf id (tableOf w .held) = found ∙ rw held-rows in
         let reads = held-read w b ok clock in
         plan-made w b id len clock ok n goes d (rw (limits, entries-many, stay-read) at decided) label
-        (labelled ∙ ap labelOrNone (label-is reads id own)) v (λ e. rw handed-many at (certain e)) m seen u
+        (labelled ∙ ap labelOrNone (label-is reads id own)) v u (λ e. rw handed-many at (certain e)) m seen
         (whole ∙ rw (limits, counted, count-is reads id own)) few
 
   -- the skips of a plan

@@ -39,12 +39,12 @@ use Rattle.table_view.proofs.AllStay.{none-skipped, all-stay, unaged-stay}
 use Rattle.offer_plan.specs.declared.plan.OfferPlan.{OfferPlan}
 use Rattle.offer_plan.specs.declared.plan.Decision.{Decision}
 use Rattle.offer_plan.specs.Plan.{liveTest, liveBodies, liveAt, Decides, NothingGoes, noneExpires}
-use Rattle.offer_plan.specs.Plan.{planTest, skipOf, KeepsAll, StayWhole, Plans}
+use Rattle.offer_plan.specs.Plan.{planTest, skipOf, KeepsAll, NoneExpired, Plans}
 use Rattle.offer_plan.proofs.RecordReads.{Counted, here-read, others-read, alive-read, first-read}
 use Rattle.offer_plan.proofs.Labels.{all-take, all-drop, Alike}
 use Rattle.offer_plan.proofs.Labels.{alike, has-alike}
 use Rattle.offer_plan.proofs.Sums.{keep-unaged, all-skipped}
-use Rattle.offer_plan.proofs.Live.{live-found, all-found, record-keyed, count-is, live-is, label-fresh}
+use Rattle.offer_plan.proofs.Live.{all-found, record-keyed, count-is, seen-is, label-fresh}
 use Rattle.offer_plan.proofs.Skips.{none-set, held-skipped, all-handed-skipped}
 use Rattle.offer_plan.proofs.Tables.{rows, labels-small, within, short, entries-few, some-templates}
 use Rattle.offer_plan.proofs.Tables.{held-alone, held-seen, held-counted, held-read, handed-are}
@@ -166,15 +166,15 @@ module _ (w b : List ℕ) (id len clock : ℕ) where
             (omega (arith, some-templates w b ok))
 
     module _ (label : ℕ) (labelled : label ≡ labelOrNone (labelOf id held)) (v : Bool)
-        (certain : v ≡ true → NothingGoes n (chanceCount w) d) (m : ℕ) (seen : m ≡ liveBodies w id clock) (t : Bool)
-        (whole : t ≡ noneExpires (l .ttl) (d .all) (countOf id held) m) where
+        (t : Bool) (certain : v ≡ true → NothingGoes n (chanceCount w) (d .all) t) (m : ℕ)
+        (seen : m ≡ liveBodies w id clock) (unaged : t ≡ noneExpires (l .ttl) (d .all) (countOf id held) m) where
       abbrev made : OfferPlan
       made = record {
         full = d .full;
         label = label;
         all = d .all;
         none = v;
-        whole = t;
+        «none_expired» = t;
         evicted = n;
         first = d .first;
       }
@@ -262,7 +262,7 @@ module _ (w b : List ℕ) (id len clock : ℕ) where
           )
 
       -- where nothing goes, nothing is skipped
-      skips-none : NothingGoes n (chanceCount w) d → skipOf w made ≡ zeros
+      skips-none : NothingGoes n (chanceCount w) (d .all) t → skipOf w made ≡ zeros
       unfolding skipOf setEach recordsFrom
       skips-none none =
           let no-first : d .first ≡ 1024 = decided .first ∙ rw (none .one-id) in
@@ -282,34 +282,32 @@ module _ (w b : List ℕ) (id len clock : ℕ) where
           (sym labelled) (label-fresh (held-read w b ok clock) id small counts) in
           all-stay (planTest l clock made) es one fresh (short w b ok)
 
-      all-kept : KeepsAll w clock made
-      all-kept e =
-          let none = certain e in
-          let counts : liveAt live (labelOf id held) ≡ countOf id held =
-          rw (none .evicts-none) at (decided .none-expired (none .none-expired)) in
-          rw (skips-none none) (none-skipped (planTest l clock made) es small (fresh-stay (none .one-id) counts))
-
       -- as many are live as the id's record counts
       own-counts : countOf id held ≡ m → liveAt live (labelOf id held) ≡ countOf id held
       own-counts all =
           let reads = held-read w b ok clock in
           let x = recordOf id held in
           let counted = count-is reads id refl in
-          sym (live-is reads id refl)
-          ∙ sym (live-found x (l .ttl) clock es m (record-keyed _ id held (held-seen w b ok id clock m seen)))
+          sym (seen-is reads id refl m (record { counted = record-keyed _ id held (held-seen w b ok id clock m seen) }))
           ∙ all-found x m (counted ∙ all)
           ∙ counted
 
-      stay-whole : StayWhole w clock made
+      none-expired-here : NoneExpired w clock made
       unfolding noneExpires
-      stay-whole e = by-ttl (l .ttl) refl (sym whole ∙ e)
+      none-expired-here e = by-ttl (l .ttl) refl (sym unaged ∙ e)
         where
-          by-ttl : (t : Ttl) → l .ttl ≡ t → noneExpires t (d .all) (countOf id held) m ≡ true →
+          by-ttl : (ttl : Ttl) → l .ttl ≡ ttl → noneExpires ttl (d .all) (countOf id held) m ≡ true →
               All (λ x. stays (planTest l clock made) x ≡ true) es
           by-ttl None is h = unaged-stay (planTest l clock made) es is (short w b ok)
           by-ttl (After limit) is h =
               fresh-stay (not-true (d .all) (and-left (not (d .all)) (eqb (countOf id held) m) h))
               (own-counts (eqb-true (countOf id held) m (and-right (not (d .all)) (eqb (countOf id held) m) h)))
+
+      all-kept : KeepsAll w clock made
+      all-kept e =
+          let none = certain e in
+          rw (skips-none none)
+          (none-skipped (planTest l clock made) es small (none-expired-here (none .none-expired)))
 
       pub plan-made : n ≤ heldCount w → Plans w b id len clock made
       unfolding skipOf
@@ -325,5 +323,5 @@ module _ (w b : List ℕ) (id len clock : ℕ) where
                 (all-back (λ u. u .label < 1024) held handed (rows w b ok .labels-small));
             few = few;
             keeps-all = all-kept;
-            stay-whole = stay-whole;
+            none-expired = none-expired-here;
           }

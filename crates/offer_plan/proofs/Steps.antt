@@ -4,9 +4,9 @@ use mathlib.Core.Bool.{Bool, true, false}
 use mathlib.Core.List.{List, [], _∷_}
 use Prim.Native.Nat.{ℕ, _+_, _*_, _-_, _≤_, _<_}
 use native.Mathlib.Omega.{arith}
-use lib.Dec.{eqb, leb, ltb}
+use lib.Dec.{leb, ltb}
 use lib.ListN.{length, getD}
-use borrow.Author.Tests.{eqb-true, leb-true, lt-ltb, le-ltb, lt-leb, le-leb}
+use borrow.Author.Tests.{leb-true, lt-ltb, le-ltb, lt-leb, le-leb}
 use Rattle.config.specs.declared.Ttl.the-variants.{None}
 use Rattle.config.specs.declared.PendingFlowsConfig.{PendingFlowsConfig}
 use Rattle.config.specs.Limits.{recordWords, entryWords, maxBodies}
@@ -18,7 +18,7 @@ use Rattle.table.specs.Layout.{limitsOf, entriesAt, recordsAt}
 use Rattle.table.specs.Table.{tableOf, entriesFrom, recordsFrom, tally}
 use Rattle.table.specs.Passes.{firstLabel}
 use Rattle.table.specs.WellFormed.{wellFormed}
-use Rattle.table.specs.Reads.{recordOf, labelIn, countIn, labelOf, countOf, liveCount}
+use Rattle.table.specs.Reads.{recordOf, labelIn, labelOf, liveCount}
 use Rattle.table.proofs.Words.{length-records}
 use Rattle.table_entries.specs.declared.StayTest.{StayTest}
 use Rattle.table_entries.specs.Sums.{summed}
@@ -34,7 +34,7 @@ use Rattle.table_view.proofs.AllStay.{all-live}
 use Rattle.offer_plan.specs.Plan.{liveTest, lensOf, liveSums, liveFound, LiveSeen, LiveRead}
 use Rattle.offer_plan.specs.Plan.{liveAt, othersFill, firstEvicted, firstOfFull, Decides}
 use Rattle.offer_plan.proofs.RecordReads.{evictions-read, none-evicted, firstSize, one-evicted}
-use Rattle.offer_plan.proofs.Live.{live-found, label-is, count-is, live-is}
+use Rattle.offer_plan.proofs.Live.{label-is, seen-is}
 use Rattle.offer_plan.proofs.Reaches.{lens-read}
 use Rattle.offer_plan.proofs.Tables.{within, held-sized, total-held, held-are}
 
@@ -99,12 +99,12 @@ oldest-found l clock es rs sums k q tests counted first =
     let is : sums ≡ liveSums (l .ttl) clock es = counted ∙ rw tests in
     rw is at first
 
--- ---- the decision: of the id's m live bodies h are found, and the record counts c
+-- ---- the decision: of the id's m live bodies h are found
 
 module _ (l : PendingFlowsConfig) (id clock : ℕ) (w : List ℕ) (es : List Entry) (p n : ℕ)
-    (x : RecordFound) (m h c : ℕ) (reads : LiveRead (l .ttl) clock (recordsFrom w p n) es)
+    (x : RecordFound) (m h : ℕ) (reads : LiveRead (l .ttl) clock (recordsFrom w p n) es)
     (seen : LiveSeen id m (l .ttl) clock (recordsFrom w p n) es) (found : x ≡ recordOf id (recordsFrom w p n))
-    (read : h ≡ liveFound m x) (counted : c ≡ countIn x)
+    (read : h ≡ liveFound m x)
   where
     abbrev rs : List TemplateRecord
     rs = recordsFrom w p n
@@ -113,17 +113,14 @@ module _ (l : PendingFlowsConfig) (id clock : ℕ) (w : List ℕ) (es : List Ent
     live = liveSums (l .ttl) clock es
 
     here : liveAt live (labelOf id rs) ≡ h
-    here = sym (read ∙ live-found x (l .ttl) clock es m (rw found (seen .counted)) ∙ live-is reads id found)
-
-    fresh : eqb h c ≡ true → liveAt live (labelOf id rs) ≡ countOf id rs
-    fresh e = here ∙ eqb-true h c e ∙ counted ∙ count-is reads id found
+    here = sym (read ∙ seen-is reads id found m seen)
 
     pub held-decided : 0 < h →
         Decides l id live rs
-        (record { full = leb (l .«max_entries_per_template») h; all = false; live = eqb h c; first = 1024 })
+        (record { full = leb (l .«max_entries_per_template») h; all = false; first = 1024 })
     held-decided some =
         let tested : ltb 0 h ≡ true = lt-ltb 0 h some in
-        record { full = rw (here, tested); all = rw (here, tested); first = refl; none-expired = fresh }
+        record { full = rw (here, tested); all = rw (here, tested); first = refl }
 
     module _ (none : h ≤ 0) (t : Bool) (tested : t ≡ othersFill (labelIn x) n (l .«max_pending_flows»)) where
       no-bodies : ltb 0 h ≡ false
@@ -133,21 +130,19 @@ module _ (l : PendingFlowsConfig) (id clock : ℕ) (w : List ℕ) (es : List Ent
       filled = rw (length-records w p n, ← label-is reads id found) (sym tested)
 
       pub new-decided : t ≡ false →
-          Decides l id live rs (record { full = false; all = false; live = eqb h c; first = 1024 })
+          Decides l id live rs (record { full = false; all = false; first = 1024 })
       new-decided e = record {
         full = rw (here, no-bodies);
         all = rw (here, no-bodies, filled, e);
         first = refl;
-        none-expired = fresh;
       }
 
       pub new-full-decided : (k : ℕ) → t ≡ true → k ≡ firstEvicted (l .«max_pending_flows») live rs →
-          Decides l id live rs (record { full = false; all = true; live = eqb h c; first = k })
+          Decides l id live rs (record { full = false; all = true; first = k })
       new-full-decided k e oldest = record {
         full = rw (here, no-bodies);
         all = rw (here, no-bodies, filled, e);
         first = oldest;
-        none-expired = fresh;
       }
 
 -- ---- the evictions, with the limits l and the figures f that were read

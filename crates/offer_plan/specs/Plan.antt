@@ -19,7 +19,7 @@ use Rattle.table.specs.declared.LabelFound.the-variants as Label
 use Rattle.table.specs.Layout.{limitsOf, heldCount}
 use Rattle.table.specs.Table.{tableOf, tally}
 use Rattle.table.specs.Passes.{firstLabel}
-use Rattle.table.specs.Reads.{recordOf, labelOf, labelOrNone, countOf, liveCount}
+use Rattle.table.specs.Reads.{recordOf, labelOf, labelOrNone, liveCount}
 use Rattle.table_entries.specs.declared.StayTest.{StayTest}
 use Rattle.table_entries.specs.Stays.{stays}
 use Rattle.table_entries.specs.Sums.{summed}
@@ -52,18 +52,10 @@ lensOf label (e ∷ es) = cond (eqb label (e .label)) (e .len) 0 + lensOf label 
 abbrev pub liveSums : Ttl → ℕ → List Entry → List ℕ
 liveSums ttl clock es = summed (liveTest ttl clock) false (replicate 1024 0) es
 
--- how many of these entries are live bodies of a record that was found
-abbrev pub liveIn : Ttl → ℕ → List Entry → RecordFound → ℕ
-liveIn ttl clock es (Record.At r) = liveCount ttl clock (r .label) es
-liveIn ttl clock es Record.Nothing = 0
-
--- what holds of it, as that its count is the number of entries with its label
+-- what holds of a record that was found
 abbrev pub FoundHas : (TemplateRecord → Type 0) → RecordFound → Type 0
 FoundHas P (Record.At r) = P r
 FoundHas P Record.Nothing = Unit {0}
-
-abbrev pub CountRight : List Entry → RecordFound → Type 0
-CountRight es x = FoundHas (λ r. r .count ≡ tally (r .label) es) x
 
 -- how many live bodies an id has
 abbrev pub liveBodies : List ℕ → ℕ → ℕ → ℕ
@@ -111,14 +103,13 @@ pub record Decides (l : PendingFlowsConfig) (id : ℕ) (live : List ℕ) (rs : L
     pub all : r .all ≡ not (ltb 0 (liveAt live (labelOf id rs))) &&
         othersFill (labelOf id rs) (length rs) (l .«max_pending_flows»)
     pub first : r .first ≡ cond (r .all) (firstEvicted (l .«max_pending_flows») live rs) 1024
-    pub none-expired : r .live ≡ true → liveAt live (labelOf id rs) ≡ countOf id rs
 
--- no template goes for its bytes, nothing is handed out, only the id's bodies can go as expired, and none of them is
-pub record NothingGoes (evicted chance : ℕ) (d : Decision) : Type 0 where
+-- no template goes for its bytes, nothing is handed out, only the id's bodies can go as expired, and none does
+pub record NothingGoes (evicted chance : ℕ) (all unaged : Bool) : Type 0 where
   pub evicts-none : evicted ≡ 0
   pub hands-none : chance ≡ 0
-  pub one-id : d .all ≡ false
-  pub none-expired : d .live ≡ true
+  pub one-id : all ≡ false
+  pub none-expired : unaged ≡ true
 
 -- whether it is certain that no body goes as expired, where so many of the id's bodies are live and its record has this
 -- count
@@ -148,8 +139,9 @@ KeepsAll w clock r =
     r .none ≡ true → swept (planTest (limitsOf w) clock r) (skipOf w r) (tableOf w .entries) ≡ tableOf w .entries
 
 -- where the plan says that no body goes as expired, each stays by itself
-abbrev pub StayWhole : List ℕ → ℕ → OfferPlan → Type 0
-StayWhole w clock r = r .whole ≡ true → All (λ e. stays (planTest (limitsOf w) clock r) e ≡ true) (tableOf w .entries)
+abbrev pub NoneExpired : List ℕ → ℕ → OfferPlan → Type 0
+NoneExpired w clock r =
+    r .«none_expired» ≡ true → All (λ e. stays (planTest (limitsOf w) clock r) e ≡ true) (tableOf w .entries)
 
 -- The plan is the model's for a body of this length: the verdict, and what is left of each template's bodies.
 -- Nothing of what is handed out stays.
@@ -166,4 +158,4 @@ pub record Plans (w b : List ℕ) (id len clock : ℕ) (r : OfferPlan) : Type 0 
   pub ends-chance : All (λ u. getD (skipOf w r) (u .label) 0 ≡ skipAll) (tableOf w .handed)
   pub few : r .evicted ≤ heldCount w
   pub keeps-all : KeepsAll w clock r
-  pub stay-whole : StayWhole w clock r
+  pub none-expired : NoneExpired w clock r

@@ -34,30 +34,28 @@ use table_records::skip_records;
 const SKIP_ALL: u32 = 262144;
 
 // What an offer decides: whether the template is full (20), the id's label (1,024 where the id is not held), whether
-// expired bodies of all ids go or only the id's, whether it is certain that nothing goes, and that no body goes as
-// expired, how many least recent templates go for their bytes, and the label of the one that goes for room (1,024 where
-// none does).
+// expired bodies of all ids go or only the id's, whether it is certain that nothing goes, whether it is certain that no
+// body goes as expired, how many least recent templates go for their bytes, and the label of the one that goes for room
+// (1,024 where none does).
 pub struct OfferPlan {
     pub full: bool,
     pub label: u64,
     pub all: bool,
     pub none: bool,
-    pub whole: bool,
+    pub none_expired: bool,
     pub evicted: usize,
     pub first: u64,
 }
 
-// What is decided by the templates that step 2 leaves; live: none of the id's bodies is expired; first: the label of
-// the template that goes for room.
+// What is decided by the templates that step 2 leaves; first: the label of the template that goes for room.
 struct Decision {
     full: bool,
     all: bool,
-    live: bool,
     first: u64,
 }
 
 // How many live bodies the record that was found has, where the id has so many.
-fn live_in(found: RecordFound, live: usize) -> usize
+fn live_found(found: RecordFound, live: usize) -> usize
     ensures { λ r. ⌜ r ≡ liveFound live found ⌝ }
 {
     match found {
@@ -155,13 +153,11 @@ fn decide(
         (recordsFrom (now (words .entry)) from records) r ⌝ }
 {
     let found = record_of(words, from, records, id);
-    let here = live_in(found, live);
-    let fresh = (here as u64) == count_in(found);
+    let here = live_found(found, live);
     if 0 < here {
         return Decision {
             full: limits.max_entries_per_template <= here,
             all: false,
-            live: fresh,
             first: LABELS as u64,
         };
     }
@@ -170,22 +166,20 @@ fn decide(
         return Decision {
             full: false,
             all: true,
-            live: fresh,
             first,
         };
     }
     Decision {
         full: false,
         all: false,
-        live: fresh,
         first: LABELS as u64,
     }
 }
 
 // Whether it is certain that no body goes: no template is evicted, nothing is handed out, only the id's bodies can go
-// as expired, and none of them is.
-fn nothing_goes(evicted: usize, chance: u64, decision: Decision) -> bool
-    ensures { λ r. ⌜ (r ≡ true → NothingGoes evicted chance decision) ⌝ }
+// as expired, and none does.
+fn nothing_goes(evicted: usize, chance: u64, all: bool, none_expired: bool) -> bool
+    ensures { λ r. ⌜ (r ≡ true → NothingGoes evicted chance all «none_expired») ⌝ }
 {
     if 0 < evicted {
         return false;
@@ -193,10 +187,10 @@ fn nothing_goes(evicted: usize, chance: u64, decision: Decision) -> bool
     if 0 < chance {
         return false;
     }
-    if decision.all {
+    if all {
         return false;
     }
-    decision.live
+    none_expired
 }
 
 // The label of a record that was found; of none, what is no label.
@@ -248,12 +242,13 @@ pub fn plan_offer(
     let decision = decide(words, limits, entries, stay, left, id, clock, live);
     let own = record_of(words, from, held, id);
     let ttl = limits.ttl;
+    let none_expired = none_expires(ttl, decision.all, count_in(own), live);
     OfferPlan {
         full: decision.full,
         label: label_in(own),
         all: decision.all,
-        none: nothing_goes(evicted, figures.chance, decision),
-        whole: none_expires(ttl, decision.all, count_in(own), live),
+        none: nothing_goes(evicted, figures.chance, decision.all, none_expired),
+        none_expired,
         evicted,
         first: decision.first,
     }

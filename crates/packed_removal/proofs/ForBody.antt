@@ -29,7 +29,7 @@ use Rattle.pending_calls.specs.Removal.{everything}
 use Rattle.template_removal.specs.Packing.{RemovesPacking}
 use Rattle.template_removal.proofs.TemplateRemoved.{swept-is}
 use Rattle.offer_plan.specs.declared.plan.OfferPlan.{OfferPlan}
-use Rattle.offer_plan.specs.Plan.{StayWhole}
+use Rattle.offer_plan.specs.Plan.{NoneExpired}
 use Rattle.planned_removal.specs.Alone.{GoesAlone}
 use Rattle.planned_removal.specs.Planned.{RemovesPlanned}
 use Rattle.planned_removal.proofs.AloneGoing.{alone-removed}
@@ -102,7 +102,7 @@ module _ (w b : List ℕ) (ok : wellFormed w (length b) ≡ true) {f : HeaderFig
   total-few = rw limits (legal .limits-legal .total-small)
 
   pub packed-for : (clock apart label len : ℕ) (plan : OfferPlan) {w′ b′ : List ℕ} {r : Removed} →
-      StayWhole w clock plan → (label < 1024 → GoesAlone w plan label) → label < 1024 →
+      NoneExpired w clock plan → (label < 1024 → GoesAlone w plan label) → label < 1024 →
       EndsPast label len (l .«max_total_bytes») (f .entries) w →
       RemovesPacking everything apart (set (replicate 1024 0) label skipAll) w b w′ b′ r →
       RemovesForBody clock plan apart len w b w′ b′ r

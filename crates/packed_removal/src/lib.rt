@@ -8,7 +8,7 @@ ghost use Rattle.table.specs.Layout.{limitsOf, heldCount, entriesAt};
 ghost use Rattle.table.specs.Table.{entriesFrom};
 ghost use Rattle.table.specs.WellFormed.{wellFormed, placesLegal};
 ghost use Rattle.pending_flows.specs.Header.{figuresAt};
-ghost use Rattle.offer_plan.specs.Plan.{KeepsAll, StayWhole};
+ghost use Rattle.offer_plan.specs.Plan.{KeepsAll, NoneExpired};
 ghost use Rattle.packed_removal.specs.ForBody.{EndsPast, RemovesForBody};
 use config::ENTRY_WORDS;
 use config::HEADER_WORDS;
@@ -54,7 +54,7 @@ pub fn remove_for_body(
     requires { ⌜ (wellFormed (now words) (length (now bytes)) ≡ true) × (limits ≡ limitsOf (now words)) ⌝ }
     requires { ⌜ (figures ≡ figuresAt (now words)) × (plan .evicted ≤ heldCount (now words)) ⌝ }
     requires { ⌜ KeepsAll (now words) clock plan × (plan .none ≡ true → figures .chance ≡ 0) ⌝ }
-    requires { ⌜ StayWhole (now words) clock plan × (len ≤ limits .«max_total_bytes») ⌝ }
+    requires { ⌜ NoneExpired (now words) clock plan × (len ≤ limits .«max_total_bytes») ⌝ }
     ensures { λ r.
         ⌜ RemovesForBody clock plan (plan .label) len (now (words .entry)) (now (bytes .entry)) (now (words .exit))
         (now (bytes .exit)) r ⌝ }

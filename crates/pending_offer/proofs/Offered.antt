@@ -16,7 +16,7 @@ use Rattle.table_watch.specs.declared.TableSeen.{TableSeen}
 use Rattle.table_watch.specs.declared.TableSeen.the-variants as Seen
 use Rattle.table_watch.proofs.Verdicts.{is-damaged, is-legal}
 use Rattle.table_check.specs.Examined.{examined}
-use Rattle.table_check.proofs.LiveSeen.{live-counted}
+use Rattle.table_check.proofs.LiveSought.{live-counted}
 use Rattle.cache_model.specs.Cache.{Cache, done, number, raised}
 use Rattle.cache_model.specs.Offer.{offered}
 use Rattle.pending_flows.specs.View.{Areas, areasOf, cacheOf}

@@ -178,11 +178,11 @@ pub fn cache(words: &mut [u64], bytes: &mut [u8], id: u16, body: &[u8], clock: u
         ⌜ Offers id (now (body .entry)) clock (areasOf (now (words .entry)) (now (bytes .entry))) r
         (areasOf (now (words .exit)) (now (bytes .exit))) ⌝ }
 {
-    let live = Sought::Live {
+    let sought = Sought::Live {
         id: id as u64,
         clock,
     };
-    let TableSeen::WellFormed(seen) = table_check::examine(words, bytes.len(), live) else {
+    let TableSeen::WellFormed(seen) = table_check::examine(words, bytes.len(), sought) else {
         return OfferAnswer::Refused(OfferRefusal::Damaged);
     };
     offer(words, bytes, id as u64, body, clock, seen.live)

@@ -19,7 +19,7 @@ use Rattle.table.specs.WellFormed.{wellFormed}
 use Rattle.table.specs.Reads.{labelOf, labelOrNone}
 use Rattle.table_check.specs.Examined.{examined}
 use Rattle.table_watch.proofs.Verdicts.{is-damaged, is-legal}
-use Rattle.table_check.proofs.LiveSeen.{live-counted}
+use Rattle.table_check.proofs.LiveSought.{live-counted}
 use Rattle.cache_model.specs.Bodies.{keep, bodiesOf, expired}
 use Rattle.cache_model.specs.Cache.{Cache, Answer, number, says}
 use Rattle.cache_model.specs.Queries.{wouldAccept}

@@ -27,7 +27,7 @@ use Rattle.pending_calls.specs.declared.removal.Removed.{Removed}
 use Rattle.pending_calls.specs.Removal.{everything, unexpired, Removes, RemovesFrom}
 use Rattle.pending_calls.proofs.NoneRemoved.{records-inside}
 use Rattle.offer_plan.specs.declared.plan.OfferPlan.{OfferPlan}
-use Rattle.offer_plan.specs.Plan.{planTest, skipOf, StayWhole}
+use Rattle.offer_plan.specs.Plan.{planTest, skipOf, NoneExpired}
 use Rattle.planned_removal.specs.Planned.{RemovesPlanned}
 use Rattle.planned_removal.specs.Alone.{GoesAlone, OnlyExpired}
 use Rattle.planned_removal.proofs.PlannedRemoval.{whole-planned}
@@ -61,10 +61,10 @@ module _ (w : List ℕ) (plan : OfferPlan) {f : HeaderFigures} {l : PendingFlows
     none-skipped evicts past =
         rw (none-handed, evicts) (set-out zeros (plan .first) skipAll (omega (arith, zeros-long)))
 
-  module _ (whole : plan .whole ≡ true) (none : f .chance ≡ 0) where
+  module _ (unaged : plan .«none_expired» ≡ true) (none : f .chance ≡ 0) where
     pub room-alone : plan .evicted ≡ 0 → plan .first < 1024 → GoesAlone w plan (plan .first)
     unfolding skipOf setEach
-    room-alone evicts small = record { whole = whole; skips = rw (none-handed none, evicts) }
+    room-alone evicts small = record { none-expired = unaged; skips = rw (none-handed none, evicts) }
 
     pub least-alone : plan .evicted ≡ 1 → 1024 ≤ plan .first → (r p : ℕ) → p ≡ recordsAt l →
         r ≡ firstLabel (recordsFrom w p (f .templates)) → r < 1024 → GoesAlone w plan r
@@ -77,7 +77,7 @@ module _ (w : List ℕ) (plan : OfferPlan) {f : HeaderFigures} {l : PendingFlows
         first-skipped (tableOf w .held) ∙ ap (λ (j : ℕ). set zeros j skipAll) (sym label) in
         let long = length-set zeros r skipAll in
         record {
-          whole = whole;
+          none-expired = unaged;
           skips = rw (none-handed none, evicts, one)
               (set-out (set zeros r skipAll) (plan .first) skipAll (omega (arith, zeros-long, long)));
         }
@@ -90,13 +90,13 @@ held-inside w n ok f is l limits p from = omega (arith, records-inside w n ok f 
 
 -- the removal of the one template is the planned one
 pub alone-removed : (w b : List ℕ) (ok : wellFormed w (length b) ≡ true) (clock apart label : ℕ) (plan : OfferPlan)
-    {w′ : List ℕ} {r : Removed} → StayWhole w clock plan → (label < 1024 → GoesAlone w plan label) → label < 1024 →
+    {w′ : List ℕ} {r : Removed} → NoneExpired w clock plan → (label < 1024 → GoesAlone w plan label) → label < 1024 →
     RemovesFrom everything apart
     (set (replicate 1024 0) label skipAll) w w′ r →
     RemovesPlanned clock plan apart w w′ r
 alone-removed w b ok clock apart label plan stay alone small done =
     let goes = alone small in
-    whole-planned w b ok clock apart plan stay (goes .whole) (sym (goes .skips)) done
+    whole-planned w b ok clock apart plan stay (goes .none-expired) (sym (goes .skips)) done
 
 -- whether nothing goes but expired bodies of the id
 module _ (f : HeaderFigures) (plan : OfferPlan) (apart : ℕ) where

@@ -25,7 +25,7 @@ use Rattle.pending_calls.specs.declared.removal.Removed.{Removed}
 use Rattle.pending_calls.specs.Removal.{everything, SkipsWhole, Removes, RemovesFrom}
 use Rattle.pending_calls.proofs.NoneRemoved.{removes-alike, all-swept-stay}
 use Rattle.offer_plan.specs.declared.plan.OfferPlan.{OfferPlan}
-use Rattle.offer_plan.specs.Plan.{planTest, skipOf, KeepsAll, StayWhole}
+use Rattle.offer_plan.specs.Plan.{planTest, skipOf, KeepsAll, NoneExpired}
 use Rattle.offer_plan.proofs.Skips.{skips-long}
 use Rattle.offer_plan.proofs.Tables.{short}
 use Rattle.planned_removal.specs.Planned.{RemovesPlanned}
@@ -90,15 +90,16 @@ module _ (w b : List ℕ) (ok : wellFormed w (length b) ≡ true) (clock apart :
             (λ r h some. omega (arith, planned-at (r .label) (h .label-small) some, h .within-cap)) (records w) all;
       })
 
-  pub whole-planned : {skip w′ : List ℕ} {r : Removed} → StayWhole w clock plan → plan .whole ≡ true →
+  pub whole-planned : {skip w′ : List ℕ} {r : Removed} → NoneExpired w clock plan → plan .«none_expired» ≡ true →
       skip ≡ skipOf w plan →
       RemovesFrom everything apart skip w w′ r →
       RemovesPlanned clock plan apart w w′ r
-  whole-planned stay whole skips done =
+  whole-planned stay unaged skips done =
       let q = planTest (limitsOf w) clock plan in
       let es = tableOf w .entries in
-      let alike = all-both (λ e. stays everything e ≡ true) (λ e. stays q e ≡ true) (λ e. stays everything e ≡ stays q e)
-      (λ e x y. x ∙ sym y) es (unaged-stay everything es refl (short w b ok)) (stay whole) in
+      let alike =
+      all-both (λ e. stays everything e ≡ true) (λ e. stays q e ≡ true) (λ e. stays everything e ≡ stays q e)
+      (λ e x y. x ∙ sym y) es (unaged-stay everything es refl (short w b ok)) (stay unaged) in
       removes-alike (swept-alike everything q (skipOf w plan) es alike) (rw skips at done)
 
 -- where nothing goes, nothing is handed out

@@ -9,9 +9,9 @@ use Rattle.pending_flows.specs.declared.header.HeaderFigures.{HeaderFigures}
 use Rattle.offer_plan.specs.declared.plan.OfferPlan.{OfferPlan}
 use Rattle.offer_plan.specs.Plan.{skipOf}
 
--- no body goes as expired, and those of this label are skipped, all of them, and no others
+-- the plan says that no body goes as expired; those of this label are skipped, all of them, and no others
 pub record GoesAlone (w : List ℕ) (plan : OfferPlan) (label : ℕ) : Type 0 where
-  pub whole : plan .whole ≡ true
+  pub none-expired : plan .«none_expired» ≡ true
   pub skips : skipOf w plan ≡ set (replicate 1024 0) label skipAll
 
 -- nothing is handed out, no template is evicted, and only expired bodies of this label go

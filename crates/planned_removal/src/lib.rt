@@ -6,7 +6,7 @@ ghost use lib.ListN.{length};
 ghost use Rattle.table.specs.Layout.{limitsOf, heldCount};
 ghost use Rattle.table.specs.WellFormed.{wellFormed};
 ghost use Rattle.pending_flows.specs.Header.{figuresAt};
-ghost use Rattle.offer_plan.specs.Plan.{planTest, KeepsAll, StayWhole};
+ghost use Rattle.offer_plan.specs.Plan.{planTest, KeepsAll, NoneExpired};
 ghost use Rattle.planned_removal.specs.Planned.{RemovesPlanned};
 ghost use Rattle.planned_removal.specs.Alone.{GoesAlone, OnlyExpired};
 use config::PendingFlowsConfig;
@@ -50,13 +50,13 @@ fn remove_skipped(
 ) -> Removed
     requires { ⌜ (wellFormed (now words) (length (now bytes)) ≡ true) × (limits ≡ limitsOf (now words)) ⌝ }
     requires { ⌜ (figures ≡ figuresAt (now words)) × (plan .evicted ≤ heldCount (now words)) ⌝ }
-    requires { ⌜ StayWhole (now words) clock plan ⌝ }
+    requires { ⌜ NoneExpired (now words) clock plan ⌝ }
     ensures { λ r.
         ⌜ RemovesPlanned clock plan apart (now (words .entry)) (now (words .exit)) r ⌝ }
 {
     let mut skip = [0u32; LABELS];
     skip_planned(words, bytes, limits, figures, plan, &mut skip);
-    if plan.whole {
+    if plan.none_expired {
         return remove_whole(words, bytes, limits, figures, &mut skip, apart);
     }
     let records = (figures.templates + figures.chance) as usize;
@@ -71,8 +71,8 @@ fn remove_skipped(
     )
 }
 
-// Where nothing is handed out and no body goes as expired: the label of the one template that goes, where no other does;
-// else what is no label.
+// Where nothing is handed out and the plan says that no body goes as expired: the label of the one template that goes,
+// where no other does; else what is no label.
 pub fn alone_label(
     words: &[u64],
     bytes: &[u8],
@@ -84,7 +84,7 @@ pub fn alone_label(
     requires { ⌜ figures ≡ figuresAt (now words) ⌝ }
     ensures { λ r. ⌜ (r < 1024 → GoesAlone (now (words .entry)) plan r) ⌝ }
 {
-    if !plan.whole {
+    if !plan.none_expired {
         return LABELS as u64;
     }
     if figures.chance != 0 {
@@ -134,7 +134,7 @@ fn remove_some(
 ) -> Removed
     requires { ⌜ (wellFormed (now words) (length (now bytes)) ≡ true) × (limits ≡ limitsOf (now words)) ⌝ }
     requires { ⌜ (figures ≡ figuresAt (now words)) × (plan .evicted ≤ heldCount (now words)) ⌝ }
-    requires { ⌜ StayWhole (now words) clock plan ⌝ }
+    requires { ⌜ NoneExpired (now words) clock plan ⌝ }
     ensures { λ r.
         ⌜ RemovesPlanned clock plan apart (now (words .entry)) (now (words .exit)) r ⌝ }
 {
@@ -161,7 +161,7 @@ pub fn remove_planned(
     requires { ⌜ (wellFormed (now words) (length (now bytes)) ≡ true) × (limits ≡ limitsOf (now words)) ⌝ }
     requires { ⌜ (figures ≡ figuresAt (now words)) × (plan .evicted ≤ heldCount (now words)) ⌝ }
     requires { ⌜ KeepsAll (now words) clock plan × (plan .none ≡ true → figures .chance ≡ 0) ⌝ }
-    requires { ⌜ StayWhole (now words) clock plan ⌝ }
+    requires { ⌜ NoneExpired (now words) clock plan ⌝ }
     ensures { λ r.
         ⌜ RemovesPlanned clock plan apart (now (words .entry)) (now (words .exit)) r ⌝ }
 {

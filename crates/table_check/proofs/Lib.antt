@@ -3,4 +3,4 @@ pub mod Room
 pub mod Counted
 pub mod Passes
 pub mod WordsPasses
-pub mod LiveSeen
+pub mod LiveSought

@@ -1,6 +1,6 @@
 // The test behind number 28: whether the words, beside so many bytes, hold a well-formed table. It is linear: one pass
 // over the records (where they are few one over their labels before it), one along the index, one over the entries. The
-// last also watches the entries that a query is about.
+// last also watches the entries that a query or an offer is about.
 ghost use mathlib.Core.Path.{_≡_};
 ghost use mathlib.Core.Bool.{_&&_};
 ghost use Prim.Native.Nat.{_<_, _≤_};

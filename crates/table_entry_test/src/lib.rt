@@ -1,4 +1,5 @@
-// The pass over the entries in the test behind number 28: it is linear, and watches the entries that a query is about.
+// The pass over the entries in the test behind number 28: it is linear, and watches the entries that a
+// query or an offer is about.
 ghost use mathlib.Core.Path.{_≡_};
 ghost use Prim.Native.Nat.{_+_, _*_, _≤_};
 ghost use lib.ListN.{length};

@@ -27,8 +27,10 @@ returns c =
     let found : tie.Then1 = tested .before .before in
     let told : tie.After-alone-label = found .before in
     let start : tie.Start = told .before .before .before .before .before in
-    packed-for _ _ (start .pre .0 .0) (start .pre .1 .0 .0) (start .pre .0 .1) _ _ _ _ _ (start .pre .1 .1 .1 .0) (told .alone-label .ensures)
-    (search needs) (tested .ends-past .ensures (search needs)) (removed .remove-packing .ensures)
+    let unaged = start .pre .1 .1 .1 .0 in
+    packed-for _ _ (start .pre .0 .0) (start .pre .1 .0 .0) (start .pre .0 .1) _ _ _ _ _ unaged
+    (told .alone-label .ensures) (search needs) (tested .ends-past .ensures (search needs))
+    (removed .remove-packing .ensures)
 
 remove-planned-requires : tie.Need-remove-planned-requires
 remove-planned-requires c κs = (search needs, (search needs, (search needs, search needs)))

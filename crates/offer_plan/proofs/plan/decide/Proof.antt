@@ -6,11 +6,8 @@ use Rattle.offer_plan.proofs.plan.decide.Tie as tie
 record-of-requires : tie.Need-record-of-requires
 record-of-requires c κs = search needs
 
-live-in-requires : tie.Need-live-in-requires
-live-in-requires c κs = search needs
-
-count-in-requires : tie.Need-count-in-requires
-count-in-requires c κs = search needs
+live-found-requires : tie.Need-live-found-requires
+live-found-requires c κs = search needs
 
 returns : tie.Need-returns
 returns c = search (held-decided, needs)
@@ -32,8 +29,7 @@ decide-spec =
     tie.close
     (tie.spec
     record-of-requires
-    live-in-requires
-    count-in-requires
+    live-found-requires
     returns
     others-fill-requires
     oldest-evicted-requires

@@ -29,17 +29,17 @@ decide-requires c κs = (
 record-of-requires : tie.Need-record-of-requires
 record-of-requires c κs = search (records-within, needs)
 
-label-in-requires : tie.Need-label-in-requires
-label-in-requires c κs = search needs
-
-nothing-goes-requires : tie.Need-nothing-goes-requires
-nothing-goes-requires c κs = search needs
-
 count-in-requires : tie.Need-count-in-requires
 count-in-requires c κs = search needs
 
 none-expires-requires : tie.Need-none-expires-requires
 none-expires-requires c κs = search needs
+
+label-in-requires : tie.Need-label-in-requires
+label-in-requires c κs = search needs
+
+nothing-goes-requires : tie.Need-nothing-goes-requires
+nothing-goes-requires c κs = search needs
 
 returns : tie.Need-returns
 returns c = search (plan-done, needs)
@@ -55,8 +55,8 @@ plan-offer-spec =
     sub-left
     decide-requires
     record-of-requires
-    label-in-requires
-    nothing-goes-requires
     count-in-requires
     none-expires-requires
+    label-in-requires
+    nothing-goes-requires
     returns)

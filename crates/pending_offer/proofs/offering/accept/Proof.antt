@@ -62,7 +62,7 @@ remove-for-body-requires c κs =
         (s .pre .1 .0 .0, plans .few),
         (
           (plans .keeps-all, none-handed _ _ (s .pre .0 .0) _ _ _ _ plans (s .pre .1 .0 .0)),
-          (plans .stay-whole, size-within _ _ _ _ (s .pre .0 .0) (s .pre .0 .1) (s .pre .1 .0 .1)),
+          (plans .none-expired, size-within _ _ _ _ (s .pre .0 .0) (s .pre .0 .1) (s .pre .1 .0 .1)),
         ),
       ),
     )

@@ -39,7 +39,7 @@ remove-planned-requires c κs =
         (s .pre .1 .0 .0, plans .few),
         (
           (plans .keeps-all, none-handed _ _ (s .pre .0 .0) _ _ _ _ plans (s .pre .1 .0 .0)),
-          plans .stay-whole,
+          plans .none-expired,
         ),
       ),
     )
