@@ -174,8 +174,8 @@ pub fn print_labels(budget: Budget) {
     }
 }
 
-/// Which pages a cache lies on moves the time of a call on a large one, so each row is measured on
-/// so many caches, each for as long as one.
+/// Which pages a cache lies on moves the time of a call on a large one, so each row of the calls is
+/// measured on so many caches, each for as long as one; the least of all counts, for each side.
 const PLACES: usize = 3;
 
 fn measured(budget: Budget, shape: Shape) -> Vec<Taken> {
@@ -283,6 +283,17 @@ struct Moves {
     resting: Both,
 }
 
+/// What an offer moves, as the table names it.
+fn what_moves(shape: &Shape) -> &'static str {
+    match (shape.call, shape.order, shape.limits.ttl) {
+        (Call::OfferPacks, ..) => "all bodies, to close a gap",
+        (_, Order::LeastRecentNearEnd, _) => "the few bodies and entries behind those evicted",
+        (Call::OfferEvictsBytes, _, Some(_)) => "bodies and entries not evicted, with a TTL",
+        (Call::OfferEvictsBytes, ..) => "bodies and entries not evicted",
+        _ => "entries not evicted",
+    }
+}
+
 fn print_move(budget: Budget, shape: Shape) {
     let call = if shape.call == Call::OfferEvicts { Call::OfferNew } else { Call::OfferHeld };
     let ttl = shape.limits.ttl.is_some();
@@ -304,13 +315,7 @@ fn print_move(budget: Budget, shape: Shape) {
             &mut |moves: &mut Moves| moves.resting.ours(),
         ],
     );
-    let moved = match (shape.call, shape.order) {
-        (Call::OfferPacks, _) => "all bodies, to close a gap",
-        (_, Order::LeastRecentNearEnd) => "the few bodies and entries behind those evicted",
-        (Call::OfferEvictsBytes, _) if ttl => "bodies and entries not evicted, with a TTL",
-        (Call::OfferEvictsBytes, _) => "bodies and entries not evicted",
-        _ => "entries not evicted",
-    };
+    let moved = what_moves(&shape);
     println!(
         "| {moved} | {} | {} | {} | {} | {} | {} | {} | {} | {} | {} | {} | {} | {} |",
         grouped(shape.templates),

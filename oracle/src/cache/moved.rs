@@ -30,8 +30,8 @@ struct Tally {
     staying: u64,
     /// Of these, the ones in which bodies went too. Only an offer among them can pack in its sweep.
     dropping: u64,
-    /// Of the last, the ones with a TTL.
-    aged: u64,
+    /// Of the last, the ones with a TTL. Bodies may have gone as expired in them.
+    with_ttl: u64,
     /// Of the moving, the ones that moved a body of this sort: up to a block or longer, by less than a
     /// block, by one, or by more.
     sorts: [[u64; 3]; 2],
@@ -93,7 +93,7 @@ impl Tally {
         self.moving += u64::from(moves);
         self.staying += u64::from(moves && stays);
         self.dropping += u64::from(moves && drops);
-        self.aged += u64::from(moves && drops && ttl);
+        self.with_ttl += u64::from(moves && drops && ttl);
         let counts = self.sorts.as_flattened_mut();
         counts.iter_mut().zip(seen.as_flattened()).for_each(|(count, &is)| *count += u64::from(is));
     }
@@ -103,14 +103,14 @@ impl fmt::Display for Moved {
     fn fmt(&self, to: &mut fmt::Formatter<'_>) -> fmt::Result {
         let areas = [("up to", BLOCK), ("above", SHORT_BLOCK)];
         for ((which, block), tally) in areas.iter().zip(&self.areas) {
-            let Tally { moving, staying, dropping, aged, sorts } = tally;
+            let Tally { moving, staying, dropping, with_ttl, sorts } = tally;
             if *moving == 0 {
                 continue;
             }
             let share = 100.0 * *moving as f64 / self.calls as f64;
             write!(to, "  bodies move in areas {which} {LONG_AREA} bytes: {moving} calls, ")?;
             write!(to, "{share:.4} %; in {staying} of them others before them stay, ")?;
-            writeln!(to, "in {dropping} bodies go in the same call, with a TTL in {aged}")?;
+            writeln!(to, "in {dropping} bodies go in the same call, with a TTL in {with_ttl}")?;
             for (length, [less, one, more]) in ["up to", "above"].iter().zip(sorts) {
                 write!(to, "    bodies of {length} {block} bytes: by less in {less} calls, ")?;
                 writeln!(to, "by {block} in {one}, by more in {more}")?;
