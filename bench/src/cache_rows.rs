@@ -4,7 +4,7 @@ use crate::both::Both;
 use crate::by_hand::Runs;
 use crate::figures::{grouped, ratio, time};
 use crate::shape::{Call, MOST_BYTES, Order, Shape};
-use crate::timing::{Budget, Taken, interleaved, median_of};
+use crate::timing::{Budget, Taken, median_of, on_each};
 use std::time::{Duration, Instant};
 
 /// Templates and bodies: a few templates, many, one, and one body each.
@@ -174,29 +174,21 @@ pub fn print_labels(budget: Budget) {
     }
 }
 
-/// Which pages a cache lies on moves the time of a call on a large one, so each row of the calls is
-/// measured on so many caches, each for as long as one; the least of all counts, for each side.
+/// Which pages a cache lies on moves the time of a call, so each row is measured on so many caches,
+/// each for as long as one. All are kept until the end, so that no two have the same place.
 const PLACES: usize = 3;
 
-fn measured(budget: Budget, shape: Shape) -> Vec<Taken> {
-    let mut sides: Vec<Taken> = Vec::new();
-    // All are kept until the end, so that no two have the same place.
-    let mut caches: Vec<Both> = (0..PLACES).map(|_| Both::new(shape)).collect();
-    for both in &mut caches {
-        let taken = interleaved(
-            budget,
-            both,
-            &mut [&mut Both::ours, &mut Both::rust, &mut Both::scalar, &mut Both::vectorised],
-        );
-        sides.resize_with(taken.len(), Taken::default);
-        sides.iter_mut().zip(taken).for_each(|(side, more)| side.join(more));
-    }
-    sides
+fn caches<S>(new: impl Fn() -> S) -> Vec<S> {
+    (0..PLACES).map(|_| new()).collect()
 }
 
 /// Prints a row; gives how many scalar sums the call takes.
 fn print_row(budget: Budget, shape: Shape) -> f64 {
-    let taken = measured(budget, shape);
+    let taken = on_each(
+        budget,
+        &mut caches(|| Both::new(shape)),
+        &mut [&mut Both::ours, &mut Both::rust, &mut Both::scalar, &mut Both::vectorised],
+    );
     let [ours, rust, scalar, vectorised] = &taken[..] else { unreachable!("four sides") };
     let [ours, rust, scalar, vectorised] = [ours, rust, scalar, vectorised].map(Taken::figure);
     let (rust_time, rust_ratio) = match shape.call {
@@ -283,6 +275,20 @@ struct Moves {
     resting: Both,
 }
 
+impl Moves {
+    fn new(shape: Shape) -> Self {
+        let call = if shape.call == Call::OfferEvicts { Call::OfferNew } else { Call::OfferHeld };
+        let ttl = shape.limits.ttl.is_some();
+        let rests = Shape::new(call, shape.templates, shape.bodies(), ttl, shape.length);
+        let rests = Shape { offered: shape.offered, order: shape.order, ..rests };
+        let mut moving = Both::new(shape);
+        let runs = moving.runs();
+        moving.check_by_hand(&runs);
+        let at_once = runs.at_once();
+        Self { moving, runs, at_once, resting: Both::new(rests) }
+    }
+}
+
 /// What an offer moves, as the table names it.
 fn what_moves(shape: &Shape) -> &'static str {
     match (shape.call, shape.order, shape.limits.ttl) {
@@ -295,16 +301,8 @@ fn what_moves(shape: &Shape) -> &'static str {
 }
 
 fn print_move(budget: Budget, shape: Shape) {
-    let call = if shape.call == Call::OfferEvicts { Call::OfferNew } else { Call::OfferHeld };
-    let ttl = shape.limits.ttl.is_some();
-    let rests = Shape::new(call, shape.templates, shape.bodies(), ttl, shape.length);
-    let rests = Shape { offered: shape.offered, order: shape.order, ..rests };
-    let mut moving = Both::new(shape);
-    let runs = moving.runs();
-    moving.check_by_hand(&runs);
-    let at_once = runs.at_once();
-    let mut moves = Moves { moving, runs, at_once, resting: Both::new(rests) };
-    let taken = interleaved(
+    let mut moves = caches(|| Moves::new(shape));
+    let taken = on_each(
         budget,
         &mut moves,
         &mut [
@@ -322,7 +320,7 @@ fn print_move(budget: Budget, shape: Shape) {
         grouped(shape.bodies()),
         grouped(shape.length),
         grouped(shape.gap),
-        grouped(moves.runs.moved()),
+        grouped(moves[0].runs.moved()),
         time(taken[1].figure()),
         time(taken[4].figure()),
         time(taken[0].figure()),

@@ -120,6 +120,17 @@ pub fn interleaved<S>(budget: Budget, state: &mut S, sides: &mut [Run<'_, S>]) -
     }
 }
 
+/// The same on each of several states, one after the other, each for as long: what each side took in
+/// all of them.
+pub fn on_each<S>(budget: Budget, states: &mut [S], sides: &mut [Run<'_, S>]) -> Vec<Taken> {
+    let mut joined: Vec<Taken> = sides.iter().map(|_| Taken::default()).collect();
+    for state in states {
+        let taken = interleaved(budget, state, sides);
+        joined.iter_mut().zip(taken).for_each(|(side, more)| side.join(more));
+    }
+    joined
+}
+
 /// What one side took in each round, in nanoseconds.
 #[derive(Default)]
 pub struct Taken {
@@ -142,7 +153,7 @@ impl Taken {
     }
 
     /// The rounds of both.
-    pub fn join(&mut self, other: Self) {
+    fn join(&mut self, other: Self) {
         if other.whole > 0 {
             let least = other.least_whole;
             self.least_whole = if self.whole == 0 { least } else { least.min(self.least_whole) };
