@@ -19,7 +19,6 @@ use Rattle.table.specs.WellFormed.{wellFormed}
 use Rattle.table.proofs.Words.{length-entries, length-records, records-behind}
 use Rattle.table.specs.Reads.{labelOf, labelOrNone, liveCount}
 use Rattle.table.proofs.Facts.{LegalWords, words-say, differ-front}
-use Rattle.table.proofs.FoundLabels.{found-alone}
 use Rattle.table_entries.specs.Sums.{summed}
 use Rattle.table_entries.proofs.LabelSums.{zeros}
 use Rattle.cache_model.specs.Bodies.{Template, size, sumTemplates, expired}
@@ -27,7 +26,7 @@ use Rattle.cache_model.specs.Removal.{evictions}
 use Rattle.pending_flows.specs.View.{templatesAt}
 use Rattle.pending_flows.proofs.Templates.{length-templates, live-bodies}
 use Rattle.pending_flows.proofs.Questions.{first-records}
-use Rattle.table_view.proofs.Tied.{Tied, words-tied}
+use Rattle.table_view.proofs.Tied.{Tied, words-tied, front-alone}
 use Rattle.table_view.proofs.Swept.{Within, placed-within}
 use Rattle.table_view.proofs.Removed.{placed-short}
 use Rattle.table_view.proofs.Totals.{lens-total}
@@ -67,9 +66,7 @@ module _ (w b : List ℕ) (ok : wellFormed w (length b) ≡ true) where
 
   -- the label of an id belongs to the held record with that key alone
   pub held-alone : (id : ℕ) → All (λ u. eqb (labelOrNone (labelOf id held)) (u .label) ≡ eqb id (u .key)) held
-  held-alone id =
-      found-alone id held (differ-front (λ r. r .key) held (tableOf w .handed) (rows .keys-differ))
-      (differ-front (λ r. r .label) held (tableOf w .handed) (rows .labels-differ)) labels-small
+  held-alone id = front-alone id held (tableOf w .handed) rows
 
   -- so that it has as many live bodies as the id
   pub held-seen : (id clock m : ℕ) → m ≡ liveBodies w id clock →

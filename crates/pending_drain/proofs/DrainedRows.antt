@@ -17,9 +17,8 @@ use Rattle.table.specs.declared.Entry.{Entry}
 use Rattle.table.specs.declared.TemplateRecord.{TemplateRecord}
 use Rattle.table.specs.Table.{hasLabel, tally}
 use Rattle.table.specs.Reads.{liveCount, liveLens}
-use Rattle.table.proofs.Facts.{Differ, differ-front}
 use Rattle.table.proofs.Labels.{own-labels, labels-apart, tally-most}
-use Rattle.table.proofs.FoundLabels.{labelFor, found-has, found-alone}
+use Rattle.table.proofs.FoundLabels.{labelFor, found-has}
 use Rattle.table_entries.specs.declared.StayTest.{StayTest}
 use Rattle.table_entries.specs.Sweep.{swept}
 use Rattle.table_entries.proofs.Swept.{length-swept, all-swept}
@@ -35,7 +34,7 @@ use Rattle.cache_model.proofs.Thinning.{without-thinned}
 use Rattle.pending_flows.specs.View.{bodiesAt, templatesAt}
 use Rattle.pending_flows.proofs.Templates.{length-bodies, live-bodies, length-templates, no-bodies}
 use Rattle.pending_flows.proofs.Templates.{found-bodies}
-use Rattle.table_view.proofs.Tied.{Tied, entries-small, none-above}
+use Rattle.table_view.proofs.Tied.{Tied, front-alone, entries-small, none-above}
 use Rattle.table_view.proofs.Swept.{bodyStays, Within, swept-bodies}
 use Rattle.table_view.proofs.Removed.{labelCounts, labelCountsBut, label-counts, none-set}
 use Rattle.table_view.proofs.Totals.{live-lens}
@@ -143,9 +142,7 @@ module _ (b : List ℕ) (ttl : Ttl) (i now : ℕ) (held handed : List TemplateRe
     held-small = all-front (λ r. r .label < 1024) held handed (tied .labels-small)
 
     alone : All (λ r. eqb label (r .label) ≡ eqb i (r .key)) held
-    alone =
-        found-alone i held (differ-front (λ r. r .key) held handed (tied .keys-differ))
-        (differ-front (λ r. r .label) held handed (tied .labels-differ)) held-small
+    alone = front-alone i held handed tied
 
     abbrev other : ℕ → List Body → List Body
     other j bs = cond (eqb i j) [] bs

@@ -16,9 +16,9 @@ use Rattle.table.specs.Layout.{limitsOf, entriesAt, recordsAt}
 use Rattle.table.specs.Table.{tableOf, entriesFrom, recordsFrom, indexFrom, tally}
 use Rattle.table.specs.WellFormed.{wellFormed}
 use Rattle.table.proofs.Words.{length-records}
-use Rattle.table.proofs.Facts.{LegalRecord, LegalWords, words-say, differ-front}
+use Rattle.table.proofs.Facts.{LegalRecord, LegalWords, words-say}
 use Rattle.table.proofs.Labels.{absent-says, absent-tally}
-use Rattle.table.proofs.FoundLabels.{found-has, found-alone, labelFor}
+use Rattle.table.proofs.FoundLabels.{found-has, labelFor}
 use Rattle.table_entries.proofs.Swept.{all-swept}
 use Rattle.table_entries.proofs.LabelSums.{length-summed}
 use Rattle.table_records.specs.Choose.{FreeLabel}
@@ -29,7 +29,8 @@ use Rattle.cache_model.specs.Offer.{settled}
 use Rattle.cache_model.proofs.Thinning.{thinned}
 use Rattle.pending_flows.specs.View.{cacheOf, bodiesAt, templatesAt}
 use Rattle.pending_flows.proofs.Templates.{length-templates, no-bodies, found-bodies}
-use Rattle.table_view.proofs.Tied.{Tied, none-above, words-tied, entries-small, no-label-tied, tied-apart}
+use Rattle.table_view.proofs.Tied.{Tied, none-above, words-tied, front-alone, entries-small, no-label-tied}
+use Rattle.table_view.proofs.Tied.{tied-apart}
 use Rattle.table_view.proofs.Removed.{labelCountsBut, labelCounts, none-set}
 use Rattle.table_view.proofs.Summed.{everything}
 use Rattle.pending_calls.specs.declared.removal.Removed.{Removed}
@@ -70,12 +71,7 @@ module _ (w b : List ℕ) (ok : wellFormed w (length b) ≡ true) (i : ℕ) (x :
 
   -- a held record has the id exactly where it has the plan's label
   agrees : All (λ u. eqb (plan .label) (u .label) ≡ eqb i (u .key)) held
-  agrees =
-      let keys = differ-front (λ u. u .key) held (tableOf w .handed) (legal .table-legal .keys-differ) in
-      let labels = differ-front (λ u. u .label) held (tableOf w .handed) (legal .table-legal .labels-differ) in
-      rw (plans .label)
-      (found-alone i held keys labels
-      (all-map Legal (λ u. u .label < 1024) (λ u h. h .label-small) held (held-legal w b ok (x .clock) plan)))
+  agrees = rw (plans .label) (front-alone i held (tableOf w .handed) (words-tied w (length b) legal))
 
   all-labels : All (λ e. e .label < 1024) entries
   all-labels =

@@ -8,7 +8,7 @@ use native.Mathlib.Omega.{arith}
 use lib.Dec.{eqb}
 use lib.ListN.{length, take-append-drop}
 use borrow.Author.Tests.{eqb-true}
-use Rattle.config.proofs.Lists.{All, all-map}
+use Rattle.config.proofs.Lists.{All, all-map, all-front}
 use Rattle.config.proofs.Tests.{or-first, or-other}
 use Rattle.table.specs.declared.Entry.{Entry}
 use Rattle.table.specs.declared.TemplateRecord.{TemplateRecord}
@@ -16,8 +16,9 @@ use Rattle.table.specs.Layout.{limitsOf, heldCount, chanceCount, recordsAt}
 use Rattle.table.specs.Table.{Table, tableOf, records, index, hasLabel, tally}
 use Rattle.table.specs.WellFormed.{indexRises}
 use Rattle.table.proofs.Words.{length-records, length-index}
-use Rattle.table.proofs.Facts.{Differ, LegalRecord, LegalEntry, LegalTable, LegalWords}
+use Rattle.table.proofs.Facts.{Differ, LegalRecord, LegalEntry, LegalTable, LegalWords, differ-front}
 use Rattle.table.proofs.Labels.{label-says, tally-here, tally-later}
+use Rattle.table.proofs.FoundLabels.{labelFor, found-alone}
 
 pub record Tied (rs : List TemplateRecord) (es : List Entry) (is : List ℕ) : Type 0 where
   pub keys-small : All (λ r. r .key < 65536) rs
@@ -72,6 +73,13 @@ words-tied w n h =
     legal-tied (tableOf w) (index w) (h .table-legal)
     (length-index w p many ∙ sym (length-records w p many)
     ∙ ap length (sym (take-append-drop (heldCount w) (records w))))
+
+-- of the first records, those that are held, the one with an id's label is the one with the id as its key
+pub front-alone : (i : ℕ) (rs us : List TemplateRecord) {es : List Entry} {is : List ℕ} → Tied (rs ++ us) es is →
+    All (λ u. eqb (labelFor i rs) (u .label) ≡ eqb i (u .key)) rs
+front-alone i rs us t =
+    found-alone i rs (differ-front (λ r. r .key) rs us (t .keys-differ))
+    (differ-front (λ r. r .label) rs us (t .labels-differ)) (all-front (λ r. r .label < 1024) rs us (t .labels-small))
 
 -- the labels of entries are those of records
 pub entries-small : (rs : List TemplateRecord) (es : List Entry) → All (λ r. r .label < 1024) rs →
