@@ -233,10 +233,10 @@ pub fn print_moves(budget: Budget) {
     println!("\n### Offers that move bodies or entries\n");
     println!(
         "| moved | templates | bodies | of bytes | gap | bytes moved | memmoves | offer | ours \
-         | (ours - offer) / memmoves | ours / memmoves | by hand / memmoves | one memmove \
-         | (ours - offer) / one memmove |"
+         | (ours - offer) / memmoves | of the least times | ours / memmoves | by hand / memmoves \
+         | one memmove | (ours - offer) / one memmove |"
     );
-    println!("|---|---:|---:|---:|---:|---:|---:|---:|---:|---:|---:|---:|---:|---:|");
+    println!("|---|---:|---:|---:|---:|---:|---:|---:|---:|---:|---:|---:|---:|---:|---:|");
     for length in [PACKET, LONG, LENGTH] {
         for call in [Call::OfferPacks, Call::OfferEvictsBytes] {
             for (templates, bodies) in GRID.into_iter().filter(|at| at.0 > 1) {
@@ -314,17 +314,20 @@ fn print_move(budget: Budget, shape: Shape) {
         ],
     );
     let moved = what_moves(&shape);
+    let [ours, memmoves, .., offer] = &taken[..] else { unreachable!("five sides") };
+    let [ours, memmoves, offer] = [ours, memmoves, offer].map(Taken::figure);
     println!(
-        "| {moved} | {} | {} | {} | {} | {} | {} | {} | {} | {} | {} | {} | {} | {} |",
+        "| {moved} | {} | {} | {} | {} | {} | {} | {} | {} | {} | {} | {} | {} | {} | {} |",
         grouped(shape.templates),
         grouped(shape.bodies()),
         grouped(shape.length),
         grouped(shape.gap),
         grouped(moves[0].runs.moved()),
-        time(taken[1].figure()),
-        time(taken[4].figure()),
-        time(taken[0].figure()),
+        time(memmoves),
+        time(offer),
+        time(ours),
         ratio(median_of(&taken, |round| (round[0] - round[4]) / round[1])),
+        ratio((ours - offer) / memmoves),
         ratio(median_of(&taken, |round| round[0] / round[1])),
         ratio(median_of(&taken, |round| round[3] / round[1])),
         time(taken[2].figure()),

@@ -49,11 +49,24 @@ fn nanoseconds(start: u64, end: u64, before: Watched, after: Watched) -> f64 {
     }
 }
 
+/// The time stamp moves on by steps of 10 ns on some processors (and by less than one on others). A run
+/// then shows one step or the next, by where in a step it began.
+const STEP_NS: f64 = 10.5;
+
+/// The mean of the times that are at most a step above the least: what the quickest runs take, to a
+/// part of a step.
+fn mean_of_least(times: impl Iterator<Item = f64> + Clone, step: f64) -> f64 {
+    let least = times.clone().fold(f64::INFINITY, f64::min);
+    let near = times.filter(|time| *time <= least + step);
+    let (sum, count) = near.fold((0.0, 0), |(sum, count), time| (sum + time, count + 1));
+    sum / f64::from(count)
+}
+
 /// What turns ticks into nanoseconds.
 struct Clock {
     ticks_per_ns: f64,
     /// Ticks, and nanoseconds of the thread's own clock, that an empty run takes.
-    own: u64,
+    own: f64,
     cpu_own: u64,
 }
 
@@ -69,18 +82,20 @@ impl Clock {
             black_box(());
             ticks() - start
         };
-        let own = (0..10_000).map(|_| empty()).min().expect("there are some");
+        let owns: Vec<f64> = (0..10_000).map(|_| empty() as f64).collect();
         let cpu_empty = || thread_time() as i128 - thread_time() as i128;
         let cpu_own = (0..1_000).map(|_| -cpu_empty()).min().expect("there are some") as u64;
         let (start, begin) = (Instant::now(), ticks());
         while start.elapsed() < Duration::from_millis(50) {}
         let (nanoseconds, passed) = (start.elapsed().as_nanos(), ticks() - begin);
-        Self { ticks_per_ns: passed as f64 / nanoseconds as f64, own, cpu_own }
+        let ticks_per_ns = passed as f64 / nanoseconds as f64;
+        let own = mean_of_least(owns.iter().copied(), STEP_NS * ticks_per_ns);
+        Self { ticks_per_ns, own, cpu_own }
     }
 
     /// Without the clock's own time.
     fn nanoseconds(&self, ticks: u64) -> f64 {
-        ticks.saturating_sub(self.own) as f64 / self.ticks_per_ns
+        (ticks as f64 - self.own).max(0.0) / self.ticks_per_ns
     }
 }
 
@@ -110,7 +125,7 @@ pub fn interleaved<S>(budget: Budget, state: &mut S, sides: &mut [Run<'_, S>]) -
             let (time, calls) = side(state);
             LONG.set(false);
             long[at] = time > LONG_FROM;
-            taken[at].add(time / calls as f64, INTERRUPTED.get());
+            taken[at].add(time / calls as f64, STEP_NS / calls as f64, INTERRUPTED.get());
         }
         runs += 1;
         let passed = start.elapsed();
@@ -136,37 +151,39 @@ pub fn on_each<S>(budget: Budget, states: &mut [S], sides: &mut [Run<'_, S>]) ->
 pub struct Taken {
     rounds: Vec<f64>,
     /// Those without an interruption.
-    whole: usize,
-    least_whole: f64,
+    whole: Vec<f64>,
+    /// A step of the clock, as it shows in the time of one call.
+    step: f64,
 }
 
 /// So many runs without an interruption are enough.
 const ENOUGH: usize = 3;
 
 impl Taken {
-    fn add(&mut self, time: f64, interrupted: bool) {
+    fn add(&mut self, time: f64, step: f64, interrupted: bool) {
         self.rounds.push(time);
+        self.step = step;
         if !interrupted {
-            self.least_whole = if self.whole == 0 { time } else { time.min(self.least_whole) };
-            self.whole += 1;
+            self.whole.push(time);
         }
     }
 
     /// The rounds of both.
     fn join(&mut self, other: Self) {
-        if other.whole > 0 {
-            let least = other.least_whole;
-            self.least_whole = if self.whole == 0 { least } else { least.min(self.least_whole) };
-        }
-        self.whole += other.whole;
+        self.step = other.step;
+        self.whole.extend(other.whole);
         self.rounds.extend(other.rounds);
     }
 
-    /// The least of the runs without an interruption; where there are hardly any, the median of
-    /// all. (The least of the others is none to trust: the system's account of a thread's time is
+    /// The least of the runs without an interruption, to a part of the clock's step; where there are
+    /// hardly any, the median of all. (The least of the others is none to trust: the system's account of a thread's time is
     /// off by some microseconds, either way.)
     pub fn figure(&self) -> f64 {
-        if self.whole >= ENOUGH { self.least_whole } else { median(self.rounds.clone()) }
+        if self.whole.len() >= ENOUGH {
+            mean_of_least(self.whole.iter().copied(), self.step)
+        } else {
+            median(self.rounds.clone())
+        }
     }
 }
 
