@@ -4,7 +4,7 @@ use crate::both::Both;
 use crate::by_hand::Runs;
 use crate::figures::{grouped, ratio, time};
 use crate::shape::{Call, MOST_BYTES, Order, Shape};
-use crate::timing::{Budget, Taken, median_of, on_each};
+use crate::timing::{Budget, Run, Taken, interleaved, median_of, on_each};
 use std::time::{Duration, Instant};
 
 /// Templates and bodies: a few templates, many, one, and one body each.
@@ -135,6 +135,21 @@ pub fn print(budget: Budget, word: &str) {
     }
 }
 
+/// The figures of the queries alone, for `placed::print`; on one cache each, since each placement has
+/// caches of its own.
+pub fn print_plain_queries(budget: Budget) {
+    for table in TABLES.iter().filter(|table| table.most == QUERY) {
+        for (templates, bodies) in GRID {
+            let shape = table.shape(templates, bodies);
+            let sides: &mut [Run<'_, Both>] = &mut [&mut Both::ours, &mut Both::scalar];
+            let taken = interleaved(budget, &mut Both::new(shape), sides);
+            let (ours, scalar) = (taken[0].figure(), taken[1].figure());
+            let (templates, bodies) = (grouped(templates), grouped(shape.bodies()));
+            println!("{} | {templates} | {bodies}\t{ours}\t{scalar}", table.name);
+        }
+    }
+}
+
 /// Other orders of arrival.
 pub fn print_orders(budget: Budget) {
     println!("\n### Order of arrival\n");
@@ -212,8 +227,8 @@ fn print_row(budget: Budget, shape: Shape) -> f64 {
 const PACKET: usize = 1_500;
 
 /// Nearly the longest body that is accepted by default, 65,531 bytes. That is a few bytes less than
-/// 16 pages: moved by so much, the C library's `memmove` is some fifteen times as slow, and a ratio
-/// to it would say little.
+/// 16 pages: moved by so much, the C library's `memmove` was some fifteen times as slow on one AMD
+/// processor, and a ratio to it would say little.
 const LONG: usize = 65_000;
 
 /// Bodies, their length, and a gap that is shorter: source and target overlap.

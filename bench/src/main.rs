@@ -8,6 +8,7 @@ mod counts;
 mod figures;
 mod held;
 mod lent;
+mod placed;
 mod port;
 mod preflight_rows;
 mod shape;
@@ -23,7 +24,9 @@ use timing::Budget;
 const USAGE: &str = "\
 usage: bench [quick] all
        bench [quick] preflight [plain]
-       bench least                   of several plain preflights on standard input
+       bench [quick] queries plain
+       bench least preflight         of several plain preflights on standard input
+       bench least queries           likewise
        bench [quick] budget
        bench [quick] cache [WORD]    tables whose name has the word
        bench [quick] orders
@@ -67,9 +70,15 @@ fn run(budget: Budget, words: &[&str]) -> Result<(), String> {
         ["preflight"] => preflight_rows::print(budget),
         ["preflight", "plain"] => preflight_rows::print_plain(budget),
         ["budget"] => budget_rows::print(budget),
-        ["least"] => {
+        ["queries", "plain"] => cache_rows::print_plain_queries(budget),
+        ["least", kind] => {
+            let kind = match *kind {
+                "preflight" => placed::PREFLIGHT,
+                "queries" => placed::QUERIES,
+                _ => return Err(USAGE.to_string()),
+            };
             let input = io::read_to_string(io::stdin()).map_err(|error| error.to_string())?;
-            preflight_rows::print_least(&input)?;
+            placed::print(&kind, &input)?;
         }
         ["cache"] => cache_rows::print(budget, ""),
         ["cache", word] => cache_rows::print(budget, word),

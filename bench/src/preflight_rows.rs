@@ -94,43 +94,12 @@ pub fn print(budget: Budget) {
     }
 }
 
-/// The figures alone, for `print_least`.
+/// The figures alone, for `placed::print`.
 pub fn print_plain(budget: Budget) {
     for Row { name, body, records, ours, rust } in rows(budget) {
         let (body, records) = (grouped(body), grouped(records));
         println!("{name} | {body} | {records}\t{ours}\t{rust}");
     }
-}
-
-/// Reads what `print_plain` printed in several runs, and prints the least of them.
-pub fn print_least(input: &str) -> Result<(), String> {
-    let mut least: Vec<(&str, [f64; 4])> = Vec::new();
-    for line in input.lines() {
-        let bad = || format!("not a row: {line}");
-        let (name, figures) = line.split_once('\t').ok_or_else(bad)?;
-        let (ours, rust) = figures.split_once('\t').ok_or_else(bad)?;
-        let number = |text: &str| text.parse::<f64>().map_err(|_| bad());
-        let (ours, rust) = (number(ours)?, number(rust)?);
-        let quotient = ours / rust;
-        match least.iter_mut().find(|row| row.0 == name) {
-            Some((_, [least_ours, least_rust, low, high])) => {
-                *least_ours = least_ours.min(ours);
-                *least_rust = least_rust.min(rust);
-                *low = low.min(quotient);
-                *high = high.max(quotient);
-            }
-            None => least.push((name, [ours, rust, quotient, quotient])),
-        }
-    }
-    println!("\n### preflight\n");
-    println!("| reading | fields | body | records | ours | Rust | ours / Rust | by placement |");
-    println!("|---|---|---:|---:|---:|---:|---:|---:|");
-    for (name, [ours, rust, low, high]) in least {
-        let quotient = ratio(ours / rust);
-        let (ours, rust, low, high) = (time(ours), time(rust), ratio(low), ratio(high));
-        println!("| {name} | {ours} | {rust} | {quotient} | {low} to {high} |");
-    }
-    Ok(())
 }
 
 fn rows(budget: Budget) -> Vec<Row> {

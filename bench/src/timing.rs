@@ -19,6 +19,22 @@ fn ticks() -> u64 {
     }
 }
 
+/// The time stamp moves on by steps of 10 ns on some processors, and a reading waits for the next one:
+/// a run would show a whole number of steps. So a short wait stands before each, of as many turns as
+/// its phase says, which is taken off again; a figure is the mean of what the phases show.
+const PHASES: usize = 32;
+
+/// A turn takes a nanosecond or two, so that the phases lie all over a few steps. Nothing after it has
+/// begun.
+#[inline(always)]
+fn wait(turns: usize) {
+    for turn in 0..turns {
+        black_box(turn);
+    }
+    // SAFETY: it is on every x86-64.
+    unsafe { _mm_lfence() };
+}
+
 /// The nanoseconds of one run, without the clock's own; or the run is counted.
 #[inline(always)]
 pub fn time_of<T>(run: impl FnOnce() -> T) -> (f64, T) {
@@ -28,6 +44,7 @@ pub fn time_of<T>(run: impl FnOnce() -> T) -> (f64, T) {
     }
     let before = watched();
     let start = ticks();
+    wait(PHASE.get());
     let answer = black_box(run());
     let end = ticks();
     let after = watched();
@@ -45,28 +62,15 @@ fn nanoseconds(start: u64, end: u64, before: Watched, after: Watched) -> f64 {
     if interrupted {
         (after.cpu - before.cpu).saturating_sub(clock().cpu_own) as f64
     } else {
-        clock().nanoseconds(end - start)
+        clock().nanoseconds(end - start, PHASE.get())
     }
-}
-
-/// The time stamp moves on by steps of 10 ns on some processors (and by less than one on others). A run
-/// then shows one step or the next, by where in a step it began.
-const STEP_NS: f64 = 10.5;
-
-/// The mean of the times that are at most a step above the least: what the quickest runs take, to a
-/// part of a step.
-fn mean_of_least(times: impl Iterator<Item = f64> + Clone, step: f64) -> f64 {
-    let least = times.clone().fold(f64::INFINITY, f64::min);
-    let near = times.filter(|time| *time <= least + step);
-    let (sum, count) = near.fold((0.0, 0), |(sum, count), time| (sum + time, count + 1));
-    sum / f64::from(count)
 }
 
 /// What turns ticks into nanoseconds.
 struct Clock {
     ticks_per_ns: f64,
-    /// Ticks, and nanoseconds of the thread's own clock, that an empty run takes.
-    own: f64,
+    /// Ticks, and nanoseconds of the thread's own clock, that an empty run takes: the ticks by phase.
+    own: [u64; PHASES],
     cpu_own: u64,
 }
 
@@ -77,25 +81,25 @@ fn clock() -> &'static Clock {
 
 impl Clock {
     fn new() -> Self {
-        let empty = || {
+        let empty = |phase| {
             let start = ticks();
+            wait(black_box(phase));
             black_box(());
             ticks() - start
         };
-        let owns: Vec<f64> = (0..10_000).map(|_| empty() as f64).collect();
+        let least = |phase| (0..10_000).map(|_| empty(phase)).min().expect("there are some");
+        let own = std::array::from_fn(least);
         let cpu_empty = || thread_time() as i128 - thread_time() as i128;
         let cpu_own = (0..1_000).map(|_| -cpu_empty()).min().expect("there are some") as u64;
         let (start, begin) = (Instant::now(), ticks());
         while start.elapsed() < Duration::from_millis(50) {}
         let (nanoseconds, passed) = (start.elapsed().as_nanos(), ticks() - begin);
-        let ticks_per_ns = passed as f64 / nanoseconds as f64;
-        let own = mean_of_least(owns.iter().copied(), STEP_NS * ticks_per_ns);
-        Self { ticks_per_ns, own, cpu_own }
+        Self { ticks_per_ns: passed as f64 / nanoseconds as f64, own, cpu_own }
     }
 
-    /// Without the clock's own time.
-    fn nanoseconds(&self, ticks: u64) -> f64 {
-        (ticks as f64 - self.own).max(0.0) / self.ticks_per_ns
+    /// Without the clock's own time and the wait. By a step of the clock it may be less than nothing.
+    fn nanoseconds(&self, ticks: u64, phase: usize) -> f64 {
+        (ticks as f64 - self.own[phase] as f64) / self.ticks_per_ns
     }
 }
 
@@ -120,12 +124,14 @@ pub fn interleaved<S>(budget: Budget, state: &mut S, sides: &mut [Run<'_, S>]) -
     let mut runs = 0;
     let start = Instant::now();
     loop {
+        let phase = runs % PHASES;
+        PHASE.set(phase);
         for (at, side) in sides.iter_mut().enumerate() {
             LONG.set(long[at]);
             let (time, calls) = side(state);
             LONG.set(false);
             long[at] = time > LONG_FROM;
-            taken[at].add(time / calls as f64, STEP_NS / calls as f64, INTERRUPTED.get());
+            taken[at].add(time / calls as f64, phase, INTERRUPTED.get());
         }
         runs += 1;
         let passed = start.elapsed();
@@ -147,43 +153,54 @@ pub fn on_each<S>(budget: Budget, states: &mut [S], sides: &mut [Run<'_, S>]) ->
 }
 
 /// What one side took in each round, in nanoseconds.
-#[derive(Default)]
 pub struct Taken {
     rounds: Vec<f64>,
-    /// Those without an interruption.
-    whole: Vec<f64>,
-    /// A step of the clock, as it shows in the time of one call.
-    step: f64,
+    /// Those without an interruption, and the least of them in each phase.
+    whole: usize,
+    least_whole: [f64; PHASES],
+}
+
+impl Default for Taken {
+    fn default() -> Self {
+        Self { rounds: Vec::new(), whole: 0, least_whole: [f64::INFINITY; PHASES] }
+    }
 }
 
 /// So many runs without an interruption are enough.
 const ENOUGH: usize = 3;
 
+/// Two steps of the clock, in nanoseconds: where the phases lie further apart, some had too few runs.
+const APART: f64 = 20.0;
+
 impl Taken {
-    fn add(&mut self, time: f64, step: f64, interrupted: bool) {
+    fn add(&mut self, time: f64, phase: usize, interrupted: bool) {
         self.rounds.push(time);
-        self.step = step;
         if !interrupted {
-            self.whole.push(time);
+            self.least_whole[phase] = time.min(self.least_whole[phase]);
+            self.whole += 1;
         }
     }
 
     /// The rounds of both.
     fn join(&mut self, other: Self) {
-        self.step = other.step;
-        self.whole.extend(other.whole);
+        for (least, more) in self.least_whole.iter_mut().zip(other.least_whole) {
+            *least = least.min(more);
+        }
+        self.whole += other.whole;
         self.rounds.extend(other.rounds);
     }
 
-    /// The least of the runs without an interruption, to a part of the clock's step; where there are
-    /// hardly any, the median of all. (The least of the others is none to trust: the system's account of a thread's time is
+    /// The least of the runs without an interruption: where each phase has some, the mean of the least
+    /// of each, which a step of the clock does not show in. (In runs so long that there are fewer, a
+    /// step is nothing.) Where there are hardly any, the median of all. (The least of the others is none to trust: the system's account of a thread's time is
     /// off by some microseconds, either way.)
     pub fn figure(&self) -> f64 {
-        if self.whole.len() >= ENOUGH {
-            mean_of_least(self.whole.iter().copied(), self.step)
-        } else {
-            median(self.rounds.clone())
+        if self.whole < ENOUGH {
+            return median(self.rounds.clone());
         }
+        let least = self.least_whole.iter().copied().fold(f64::INFINITY, f64::min);
+        let mean = self.least_whole.iter().sum::<f64>() / PHASES as f64;
+        if mean < least + APART { mean } else { least }
     }
 }
 
@@ -204,6 +221,8 @@ const LONG_FROM: f64 = 20_000.0;
 
 thread_local! {
     static LONG: Cell<bool> = const { Cell::new(false) };
+    /// Turns of the wait before the next run.
+    static PHASE: Cell<usize> = const { Cell::new(0) };
     /// Whether the last run was.
     static INTERRUPTED: Cell<bool> = const { Cell::new(false) };
 }
