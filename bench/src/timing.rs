@@ -19,9 +19,9 @@ fn ticks() -> u64 {
     }
 }
 
-/// The time stamp moves on by steps of 10 ns on some processors, and a reading waits for the next one:
-/// a run would show a whole number of steps. So a short wait stands before each, of as many turns as
-/// its phase says, which is taken off again; a figure is the mean of what the phases show.
+/// The time stamp moves on by steps of 10 ns on some processors, and a run shows a whole number of
+/// them. So a short wait stands before each, of as many turns as its phase says, which is taken off
+/// again; a figure is the mean of what the phases show.
 const PHASES: usize = 32;
 
 /// A turn takes a nanosecond or two, so that the phases lie all over a few steps. Nothing after it has
@@ -190,10 +190,11 @@ impl Taken {
         self.rounds.extend(other.rounds);
     }
 
-    /// The least of the runs without an interruption: where each phase has some, the mean of the least
-    /// of each, which a step of the clock does not show in. (In runs so long that there are fewer, a
-    /// step is nothing.) Where there are hardly any, the median of all. (The least of the others is none to trust: the system's account of a thread's time is
-    /// off by some microseconds, either way.)
+    /// The least of the runs without an interruption: the mean of the least of each phase, in which a
+    /// step of the clock does not show; where a phase has none, or too few, the least of all. (That is
+    /// in long runs, where a step is nothing.) Where there are hardly any, the median of all. (The
+    /// least of the others is none to trust: the system's account of a thread's time is off by some
+    /// microseconds, either way.)
     pub fn figure(&self) -> f64 {
         if self.whole < ENOUGH {
             return median(self.rounds.clone());
