@@ -1,4 +1,6 @@
 // The limits of a pending flow cache, and which of them are refused (config.rs, ttl.rs, pending_flows.rs).
+#![tactic(auto)]
+
 mod age;
 
 ghost use Rattle.std.specs.Prelude.{◌≡◌, ◌<◌};

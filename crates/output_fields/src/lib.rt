@@ -1,4 +1,6 @@
 // Where the lengths of a record's fields stand: the layout of a template, and length prefixes (output_budget.rs).
+#![tactic(auto)]
+
 ghost use Rattle.std.specs.Prelude.{◌≡◌, ◌+◌, ◌*◌, ◌≤◌, ◌<◌, length, get_or};
 ghost use Rattle.output_fields.specs.Layout.{has_variable, layout_of};
 

@@ -1,4 +1,6 @@
 // The words of a line, and the number that a word says. Each word is found from the line's front: lines are short.
+#![tactic(auto)]
+
 ghost use Rattle.std.specs.Prelude.{◌≡◌, ◌+◌, length};
 ghost use Rattle.pendlist_words.specs.Words.{words_of, word_at, number_of, is_byte};
 ghost use Rattle.pendlist_words.specs.Digits.{with_digit};

@@ -1,10 +1,12 @@
 // Sizes and padding of NetFlow v9 and IPFIX data records (wire.rs).
+#![tactic(auto)]
+
 ghost use Rattle.std.specs.Prelude.{◌≡◌, ◌≤◌, length};
 ghost use Rattle.wire.specs.Size.{least_field_size, least_size};
 ghost use Rattle.wire.specs.Padding.{short_padding, v9_padding, is_complete};
 
 // How the widths of a template are read.
-#[derive(Drop)]
+#[derive(Clone, Copy)]
 pub enum Reading {
     // NetFlow v9: every width is plain, 65,535 too.
     V9Fixed,
