@@ -9,7 +9,7 @@ ghost use Rattle.config.specs.Limits.{refusal_number, answer_number, limits_numb
 pub use age::is_expired;
 
 // How long a body may be held.
-#[derive(Drop)]
+#[derive(Clone, Copy)]
 pub enum Ttl {
     // for ever
     None,
@@ -17,7 +17,7 @@ pub enum Ttl {
     After(u64),
 }
 
-#[derive(Drop)]
+#[derive(Clone, Copy)]
 pub struct PendingFlowsConfig {
     // how many templates are held
     pub max_pending_flows: usize,
@@ -28,7 +28,7 @@ pub struct PendingFlowsConfig {
 }
 
 // Why limits are refused.
-#[derive(Drop)]
+#[derive(Clone, Copy)]
 pub enum ConfigRefusal {
     NoTemplates,
     NoEntries,
@@ -38,7 +38,7 @@ pub enum ConfigRefusal {
     Areas,
 }
 
-#[derive(Drop)]
+#[derive(Clone, Copy)]
 pub enum ConfigAnswer {
     Accepted,
     Refused(ConfigRefusal),

@@ -25,7 +25,7 @@ const SKIP_ALL: u32 = 262144;
 // expired bodies of all ids go or only the id's, whether it is certain that nothing goes, whether it is certain that no
 // body goes as expired, how many least recent templates go for their bytes, and the label of the one that goes for room
 // (1,024 where none does).
-#[derive(Drop)]
+#[derive(Clone, Copy)]
 pub struct OfferPlan {
     pub full: bool,
     pub label: u64,
@@ -37,7 +37,7 @@ pub struct OfferPlan {
 }
 
 // What is decided by the templates that step 2 leaves; first: the label of the template that goes for room.
-#[derive(Drop)]
+#[derive(Clone, Copy)]
 struct Decision {
     full: bool,
     all: bool,

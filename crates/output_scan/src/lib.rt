@@ -1,4 +1,6 @@
 // The whole records at the front of a body (output_budget.rs): what a scan tells, and the scan of records of one size.
+#![tactic(auto)]
+
 ghost use Rattle.std.specs.Prelude.{◌≡◌, ◌<◌};
 ghost use Rattle.output_scan.specs.Scan.{fixed_scan_of};
 

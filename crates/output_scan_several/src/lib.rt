@@ -1,4 +1,6 @@
 // The scan of a body field by field, for a template with several variable-length fields (output_budget.rs).
+#![tactic(auto)]
+
 ghost use Rattle.std.specs.Prelude.{◌≡◌, ◌<◌};
 ghost use Rattle.wire.specs.declared.Reading.TheVariants.{IpfixVariable};
 ghost use Rattle.wire.specs.Size.{least_size};

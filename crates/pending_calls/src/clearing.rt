@@ -11,7 +11,7 @@ use pending_flows::{HeaderFigures, figures_at, write_header};
 use table::limits_at;
 
 // What clearing answers.
-#[derive(Drop)]
+#[derive(Clone, Copy)]
 pub enum ClearAnswer {
     Done,
     // number 28

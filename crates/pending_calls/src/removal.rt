@@ -18,7 +18,7 @@ use table_promotion::take_record;
 use table_records::{count_whole, set_sum, sum_of};
 
 // What a removal leaves: entries, their lengths together, records, and the bodies of the label that was set apart.
-#[derive(Drop)]
+#[derive(Clone, Copy)]
 pub struct Removed {
     pub entries: usize,
     pub bytes: u64,

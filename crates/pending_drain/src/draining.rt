@@ -22,7 +22,7 @@ use table_records::skip_records;
 use template_removal::remove_expired_of;
 
 // What a drain answers.
-#[derive(Drop)]
+#[derive(Clone, Copy)]
 pub enum DrainAnswer {
     // so many bodies are handed out
     HandedOut(usize),

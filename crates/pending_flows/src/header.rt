@@ -8,7 +8,7 @@ use config::{PendingFlowsConfig, Ttl};
 use table::{CACHED, CHANCE_COUNT, DROPPED, ENTRY_COUNT, HELD_COUNT, TOTAL};
 
 // The header's words behind the limits.
-#[derive(Drop)]
+#[derive(Clone, Copy)]
 pub struct HeaderFigures {
     pub cached: u64,
     pub dropped: u64,

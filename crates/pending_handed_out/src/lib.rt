@@ -5,14 +5,14 @@ ghost use Rattle.pending_handed_out.specs.HandedOut.{PlacesHandedOut, ReadsHande
 use table_watch::{EntryFound, Sought, TableSeen};
 
 // Where a body lies in the byte area.
-#[derive(Drop)]
+#[derive(Clone, Copy)]
 pub struct BodyPlace {
     pub place: usize,
     pub len: usize,
 }
 
 // Why there is no place.
-#[derive(Drop)]
+#[derive(Clone, Copy)]
 pub enum PlaceRefusal {
     // number 27
     NotHandedOut,
@@ -21,7 +21,7 @@ pub enum PlaceRefusal {
 }
 
 // What the call for a handed-out body's place answers.
-#[derive(Drop)]
+#[derive(Clone, Copy)]
 pub enum PlaceAnswer {
     At(BodyPlace),
     Refused(PlaceRefusal),

@@ -21,7 +21,7 @@ use table::{LABELS, limits_at};
 use table_watch::{Sought, TableSeen};
 
 // Why a body is not accepted. Number 21 is none of them: no offer can reach it.
-#[derive(Drop)]
+#[derive(Clone, Copy)]
 pub enum OfferRefusal {
     // number 6
     TooLong,
@@ -32,7 +32,7 @@ pub enum OfferRefusal {
 }
 
 // What an offer answers.
-#[derive(Drop)]
+#[derive(Clone, Copy)]
 pub enum OfferAnswer {
     Cached,
     Refused(OfferRefusal),

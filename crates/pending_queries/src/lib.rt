@@ -13,7 +13,7 @@ use table::{CACHED, DROPPED, ENTRY_COUNT, HELD_COUNT, TOTAL, limits_at};
 use table_watch::{Sought, TableSeen};
 
 // What `would_accept` answers.
-#[derive(Drop)]
+#[derive(Clone, Copy)]
 pub enum AcceptAnswer {
     Yes,
     No,
@@ -53,7 +53,7 @@ pub fn would_accept(words: &[u64], bytes: &[u8], id: u16, len: usize, clock: u64
 }
 
 // The figures of a cache.
-#[derive(Drop)]
+#[derive(Clone, Copy)]
 pub struct CacheFigures {
     pub templates: u64,
     pub bodies: u64,
@@ -65,7 +65,7 @@ pub struct CacheFigures {
 }
 
 // What the figures' call answers.
-#[derive(Drop)]
+#[derive(Clone, Copy)]
 pub enum FiguresAnswer {
     At(CacheFigures),
     // number 28

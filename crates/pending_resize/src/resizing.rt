@@ -14,7 +14,7 @@ use pending_flows::{HeaderFigures, figures_at, handed_count, write_header};
 use table::{limits_at, records_at};
 
 // What a resize answers.
-#[derive(Drop)]
+#[derive(Clone, Copy)]
 pub enum ResizeAnswer {
     // so many bodies are dropped
     Dropped(usize),

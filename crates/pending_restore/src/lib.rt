@@ -18,7 +18,7 @@ use table::{CHANCE_COUNT, HELD_COUNT, LABELS, TemplateRecord, limits_at, record_
 use table_records::set_sum;
 
 // Why nothing is put back.
-#[derive(Drop)]
+#[derive(Clone, Copy)]
 pub enum PutBackRefusal {
     // number 25
     NoChance,
@@ -27,14 +27,14 @@ pub enum PutBackRefusal {
 }
 
 // What a put-back answers.
-#[derive(Drop)]
+#[derive(Clone, Copy)]
 pub enum PutBackAnswer {
     Done,
     Refused(PutBackRefusal),
 }
 
 // The handed-out template, where bodies of it may be put back.
-#[derive(Drop)]
+#[derive(Clone, Copy)]
 enum ChanceFound {
     At(TemplateRecord),
     Nothing,

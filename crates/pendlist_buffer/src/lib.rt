@@ -9,7 +9,7 @@ use pendlist_texts::{TextDone, run_text};
 use pendlist_turns::bytes_ready;
 
 // What a turn leaves.
-#[derive(Drop)]
+#[derive(Clone, Copy)]
 pub struct Turn {
     // the bytes at the buffer's front: a line that may go on
     pub kept: usize,

@@ -1,4 +1,6 @@
 // What the words behind the first word of a line of `pendlist` say (document 01, "Cases").
+#![tactic(auto)]
+
 ghost use Rattle.std.specs.Prelude.{◌≡◌};
 ghost use Rattle.pendlist_words.specs.Words.{words_of, word_at};
 ghost use Rattle.pendlist_commands.specs.Commands.{ttl_of, open_of, offer_of, drain_of};
@@ -7,7 +9,7 @@ use config::{PendingFlowsConfig, Ttl};
 use pendlist_words::{NumberFound, number_at, word_is};
 
 // `o id length clock`: a body of that length is offered to the template.
-#[derive(Drop)]
+#[derive(Clone, Copy)]
 pub struct OfferLine {
     pub id: u16,
     pub len: u16,
@@ -15,14 +17,14 @@ pub struct OfferLine {
 }
 
 // `d id clock`: the template is drained.
-#[derive(Drop)]
+#[derive(Clone, Copy)]
 pub struct DrainLine {
     pub id: u16,
     pub clock: u64,
 }
 
 // What a line says.
-#[derive(Drop)]
+#[derive(Clone, Copy)]
 pub enum Line {
     // `c` with five limits
     Open(PendingFlowsConfig),
@@ -33,7 +35,7 @@ pub enum Line {
 }
 
 // What a word says as a TTL.
-#[derive(Drop)]
+#[derive(Clone, Copy)]
 enum TtlFound {
     Is(Ttl),
     // neither `-` nor a number

@@ -1,5 +1,7 @@
 // The bytes that the program `pendlist` reads and offers: where a line of its input ends, and a body (document 01,
 // "Cases").
+#![tactic(auto)]
+
 ghost use Rattle.std.specs.Prelude.{◌≡◌, length};
 ghost use Rattle.pendlist_input.specs.Input.{first_line, whole_lines};
 ghost use Rattle.pendlist_input.specs.Body.{ramp};

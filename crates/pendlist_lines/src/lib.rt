@@ -1,4 +1,6 @@
 // One input line of the program `pendlist` (document 01, "Cases"): what it says, and which line may follow.
+#![tactic(auto)]
+
 ghost use Rattle.std.specs.Prelude.{◌≡◌};
 ghost use Rattle.pendlist_lines.specs.Grammar.{words_of, is_command, from_words, line_of, in_order};
 

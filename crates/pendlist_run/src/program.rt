@@ -8,7 +8,7 @@ use pendlist_buffer::take_turn;
 use pendlist_calls::{byte_area, word_area};
 
 // How the program ended.
-#[derive(Drop)]
+#[derive(Clone, Copy)]
 pub enum Ended {
     // the input ended, and every row is written
     Input,

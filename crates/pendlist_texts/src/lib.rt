@@ -15,7 +15,7 @@ struct LineDone {
 }
 
 // How far the lines of a text have come.
-#[derive(Drop)]
+#[derive(Clone, Copy)]
 pub struct TextDone {
     // whether a cache is open
     pub opened: bool,

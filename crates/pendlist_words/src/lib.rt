@@ -7,7 +7,7 @@ ghost use Rattle.pendlist_words.specs.Digits.{with_digit};
 ghost use Rattle.pendlist_words.specs.Starts.{Starts};
 
 // The number that a word says, if it says one.
-#[derive(Drop)]
+#[derive(Clone, Copy)]
 pub enum NumberFound {
     At(u64),
     Nothing,

@@ -9,7 +9,7 @@ pub use chunk::{fill, move_to_front, whole_lines};
 pub use tally::Tally;
 
 // A number of the text, and where the text goes on after it.
-#[derive(Drop)]
+#[derive(Clone, Copy)]
 pub struct Number {
     pub value: u64,
     pub next: usize,

@@ -5,7 +5,7 @@ ghost use Rattle.recorded.specs.Count.{opened, one_more, with_row};
 use libc::STDOUT_FILENO;
 
 // How many rows were run, and how many of them differ from what was recorded.
-#[derive(Drop)]
+#[derive(Clone, Copy)]
 pub struct Tally {
     pub rows: u64,
     pub differ: u64,

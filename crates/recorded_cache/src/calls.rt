@@ -11,7 +11,7 @@ use pending_resize::{ResizeAnswer, resize};
 use pending_restore::{PutBackAnswer, PutBackRefusal, restore_replay_suffix};
 
 // An answer.
-#[derive(Drop)]
+#[derive(Clone, Copy)]
 pub struct Answered {
     pub number: u64,
     pub value: u64,

@@ -11,7 +11,7 @@ pub const KEPT: usize = 256;
 pub const OFFERS: usize = 512;
 
 // How far a list is the same, and where the line goes on.
-#[derive(Drop)]
+#[derive(Clone, Copy)]
 pub struct Compared {
     pub same: bool,
     pub next: usize,

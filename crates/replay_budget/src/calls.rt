@@ -20,7 +20,7 @@ use output_reserve::reserved;
 use output_rollback::rolled_back;
 
 // An answer as document 01's number and values, whether the lent form answered the same, and the budget after it.
-#[derive(Drop)]
+#[derive(Clone, Copy)]
 pub struct Answered {
     pub number: u64,
     pub x1: u64,

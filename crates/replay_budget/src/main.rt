@@ -12,7 +12,7 @@ use output_preflight::{FieldValues, PayloadBytes};
 use recorded::{BUFFERS, Tally, fill, first_digit, move_to_front, next_number, whole_lines};
 
 // The rows run so far, and the budget that the next call goes on with.
-#[derive(Drop)]
+#[derive(Clone, Copy)]
 struct Replay {
     tally: Tally,
     budget: DecodedOutputBudget,
@@ -121,7 +121,7 @@ fn run_row(text: &[u8], at: usize, replay: Replay) -> RowDone {
 }
 
 // Where a row ends in the text, and the replay after it.
-#[derive(Drop)]
+#[derive(Clone, Copy)]
 struct RowDone {
     next: usize,
     replay: Replay,

@@ -4,7 +4,7 @@ use pending_queries::{FiguresAnswer, take_figures};
 use recorded_cache::{Answered, Row, goes_on, same_handed_out, same_templates};
 
 // The part of a row that differs first.
-#[derive(Drop)]
+#[derive(Clone, Copy)]
 pub enum Verdict {
     Same,
     // the line ends before its list

@@ -8,7 +8,7 @@ use recorded::Tally;
 use recorded_cache::{Answered, KEPT, OFFERS, Row, read_row, run_call};
 
 // The rows and lists run so far, and the lengths of the areas and the offers of the list that is open.
-#[derive(Drop)]
+#[derive(Clone, Copy)]
 pub struct Replay {
     pub tally: Tally,
     pub lists: u64,

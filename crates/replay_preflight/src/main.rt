@@ -10,7 +10,7 @@ use recorded::{BUFFERS, Tally, fill, first_digit, move_to_front, next_number, wh
 use wire::Reading;
 
 // A row's end in the text, and whether the answer is the recorded one.
-#[derive(Drop)]
+#[derive(Clone, Copy)]
 struct Compared {
     next: usize,
     same: bool,

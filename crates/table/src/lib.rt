@@ -1,4 +1,6 @@
 // The cache's table in the lent words: a header, entries for bodies, records for templates (docs/LAYOUT.md).
+#![tactic(auto)]
+
 mod layout;
 mod reads;
 
@@ -9,7 +11,7 @@ pub use layout::{
 pub use reads::{count_in, count_of, first_label, label_for, live_figures, record_of};
 
 // A body: its template's label, its place and length in the byte area, and the clock reading of its offer.
-#[derive(Drop)]
+#[derive(Clone, Copy)]
 pub struct Entry {
     pub label: u64,
     pub place: u64,
@@ -18,7 +20,7 @@ pub struct Entry {
 }
 
 // A template: its key (the id), its label, and how many bodies it has.
-#[derive(Drop)]
+#[derive(Clone, Copy)]
 pub struct TemplateRecord {
     pub key: u64,
     pub label: u64,
@@ -26,21 +28,21 @@ pub struct TemplateRecord {
 }
 
 // A record that is looked for.
-#[derive(Drop)]
+#[derive(Clone, Copy)]
 pub enum RecordFound {
     At(TemplateRecord),
     Nothing,
 }
 
 // The label of a template that is looked for.
-#[derive(Drop)]
+#[derive(Clone, Copy)]
 pub enum LabelFound {
     At(u64),
     Nothing,
 }
 
 // The bodies of a label that are not expired: how many, and their lengths together, which wrap.
-#[derive(Drop)]
+#[derive(Clone, Copy)]
 pub struct LiveFigures {
     pub bodies: usize,
     pub bytes: u64,

@@ -12,7 +12,7 @@ pub use sweeps::{Kept, move_entry, put_entry, sweep};
 
 // Which bodies stay, each by itself: one that is expired goes, where its label or every label is aged, and one that is
 // too large.
-#[derive(Drop)]
+#[derive(Clone, Copy)]
 pub struct StayTest {
     pub ttl: Ttl,
     pub clock: u64,

@@ -27,7 +27,7 @@ pub fn last_end(words: &[u64], entries: usize) -> u64
 }
 
 // Bodies that lie side by side and move together: where they begin, where they go, and their length.
-#[derive(Drop)]
+#[derive(Clone, Copy)]
 pub struct Run {
     pub from: usize,
     pub to: usize,

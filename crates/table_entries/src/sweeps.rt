@@ -13,7 +13,7 @@ use std::num::wrapping_add_u64;
 use table::{Entry, LABELS, entry_at};
 
 // What a sweep keeps: how many entries, and their lengths together.
-#[derive(Drop)]
+#[derive(Clone, Copy)]
 pub struct Kept {
     pub entries: usize,
     pub bytes: u64,

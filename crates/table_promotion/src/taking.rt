@@ -98,7 +98,7 @@ pub fn take_off(words: &mut [u64], from: usize, records: usize, at: usize) -> u3
 }
 
 // How many records are left, and how many bodies the one that went counted; 0 where none went.
-#[derive(Drop)]
+#[derive(Clone, Copy)]
 pub struct Taken {
     pub records: usize,
     pub bodies: u32,

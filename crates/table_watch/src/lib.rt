@@ -8,14 +8,14 @@ use config::{ENTRY_WORDS, HEADER_WORDS, Ttl};
 use table::{Entry, LABELS, entry_at, label_for};
 
 // An entry that is looked for.
-#[derive(Drop)]
+#[derive(Clone, Copy)]
 pub enum EntryFound {
     At(Entry),
     Nothing,
 }
 
 // What is looked for while a table is tested.
-#[derive(Drop)]
+#[derive(Clone, Copy)]
 pub enum Sought {
     Nothing,
     // the bodies of a held id that are not expired at a clock reading, to be counted
@@ -25,14 +25,14 @@ pub enum Sought {
 }
 
 // What was seen of the entries that are looked for: how many there are, and the one with the number, if any.
-#[derive(Drop)]
+#[derive(Clone, Copy)]
 pub struct LabelSeen {
     pub live: usize,
     pub found: EntryFound,
 }
 
 // A table that was tested.
-#[derive(Drop)]
+#[derive(Clone, Copy)]
 pub enum TableSeen {
     WellFormed(LabelSeen),
     // number 28
@@ -41,7 +41,7 @@ pub enum TableSeen {
 
 // The entries that are watched: those of a label with a clock reading of `oldest` or later. The one with `nth` of them
 // before it is kept.
-#[derive(Drop)]
+#[derive(Clone, Copy)]
 pub struct Watch {
     pub label: u64,
     pub oldest: u64,
@@ -49,7 +49,7 @@ pub struct Watch {
 }
 
 // How many watched entries were passed, and how many entries were left at the one that is kept.
-#[derive(Drop)]
+#[derive(Clone, Copy)]
 pub struct Passed {
     pub live: usize,
     pub left: usize,
