@@ -52,9 +52,12 @@ module _ {A : Type 0} where
   pub part_trans : {R : A → A → Type 0} {xs ys zs : List A} → ((x y z : A) → R x y → R y z → R x z)
       → Part R xs ys → Part R ys zs → Part R xs zs
   part_trans f s none = s
-  part_trans f (both {x = x} q s) (both {x = y} {y = z} r t) = both (f x y z q r) (part_trans f s t)
-  part_trans f (skip s) (both r t) = skip (part_trans f s t)
-  part_trans f s (skip t) = skip (part_trans f s t)
+  part_trans {R = R} f (both {x = x} {xs = xs} q s) (both {x = y} {y = z} {xs = xs'} {ys = ys} r t) =
+      both (f x y z q r) (part_trans {R = R} {xs = xs} {ys = xs'} {zs = ys} f s t)
+  part_trans {R = R} {xs = xs} f (skip {ys = ys} s) (both {ys = zs} r t) =
+      skip (part_trans {R = R} {xs = xs} {ys = ys} {zs = zs} f s t)
+  part_trans {R = R} {xs = xs} {ys = ys} f s (skip {ys = zs} t) =
+      skip (part_trans {R = R} {xs = xs} {ys = ys} {zs = zs} f s t)
 
   pub part_append : {R : A → A → Type 0} {xs ys us vs : List A} → Part R xs ys → Part R us vs
       → Part R (xs ++ us) (ys ++ vs)
