@@ -1,4 +1,6 @@
 // The pending flow cache in lent areas (pending_flows.rs): its header, opening, and how many bodies a chance is for.
+#![tactic(auto)]
+
 mod chance;
 mod header;
 mod opening;

@@ -1,4 +1,6 @@
 // Passes over the entries of a table: sums by label, the sweep, and packing (docs/LAYOUT.md).
+#![tactic(auto)]
+
 mod pack;
 mod stay;
 mod sums;

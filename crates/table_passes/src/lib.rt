@@ -1,4 +1,6 @@
 // The passes over the records and along the index in the test behind number 28, each linear.
+#![tactic(auto)]
+
 ghost use Rattle.std.specs.Prelude.{◌≡◌, ◌+◌, ◌*◌, ◌≤◌, length};
 ghost use Rattle.config.specs.Limits.{record_words};
 ghost use Rattle.table.specs.Table.{records_from, index_from};

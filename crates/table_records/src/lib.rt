@@ -1,4 +1,6 @@
 // The template records of a table: what is chosen among them, sums by label, and storing one (docs/LAYOUT.md).
+#![tactic(auto)]
+
 mod choosing;
 mod keeping;
 mod storing;

@@ -1,4 +1,6 @@
 // What is watched while the entries are tested: those of one label that are not too old are counted, and one is kept.
+#![tactic(auto)]
+
 ghost use Rattle.std.specs.Prelude.{◌≡◌, ◌+◌, ◌*◌, ◌^◌, ◌≤◌, ◌<◌, length};
 ghost use Rattle.config.specs.Limits.{header_words, record_words, entry_words};
 ghost use Rattle.table.specs.Table.{records_from, entry_at};
