@@ -1,6 +1,8 @@
 // The test behind number 28: whether the words, beside so many bytes, hold a well-formed table. It is linear: one pass
 // over the records (where they are few one over their labels before it), one along the index, one over the entries. The
 // last also watches the entries that a query or an offer is about.
+#![tactic(auto)]
+
 ghost use Rattle.std.specs.Prelude.{◌≡◌, ◌&&◌, ◌<◌, ◌≤◌, length};
 ghost use Rattle.config.specs.Limits.{header_words, max_bodies};
 ghost use Rattle.table.specs.Layout.{limits_of};

@@ -1,4 +1,6 @@
 // Closing: records whose label has no bodies left go, the others have their counts anew, and the index follows.
+#![tactic(auto)]
+
 ghost use Rattle.std.specs.Prelude.{◌≡◌, ◌+◌, ◌*◌, ◌≤◌, length, get_or};
 ghost use Rattle.config.specs.Limits.{record_words};
 ghost use Rattle.table_records.specs.Close.{nowhere, Closes};

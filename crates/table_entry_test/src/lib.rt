@@ -1,5 +1,7 @@
 // The pass over the entries in the test behind number 28: it is linear, and watches the entries that a
 // query or an offer is about.
+#![tactic(auto)]
+
 ghost use Rattle.std.specs.Prelude.{◌≡◌, ◌+◌, ◌*◌, ◌≤◌, length};
 ghost use Rattle.config.specs.Limits.{entry_words};
 ghost use Rattle.table.specs.Layout.{entries_at};

@@ -15,12 +15,12 @@ loop-left-preserved c = let more : 0 < c.loop-left.left = search rules in
     elim c.if-stays.branch [
       then-stays+then-not-spend v ↦
         rw (v.words-is ∙ v.put_entry.ensures, v.skip-is, v.kept-is, v.bytes-is, v.to-is)
-        (length_spent v.spend.ensures (search rules), search (entry_kept, first_kept, not-true, rules))
+        (length_spent v.spend.ensures (search rules), search (entry_kept, first_kept, rules))
     | then-stays+else-not-spend v ↦
-        let skipped = first_skipped _ _ c.stays.ensures v.if-stays.true v.spend.ensures (not-false v.spend.result v.if-not-spend.false) in
-        rw (v.4, v.5, v.6, v.7, v.8)
-        (length_spent v.2.ensures (search rules), search (entry_left_out, skipped, rules))
-    | else-stays v ↦ rw (v.1, v.2, v.3, v.4, v.5) (search rules, search (entry_left_out, first_goes, rules))
+        let skipped = first_skipped _ _ c.stays.ensures v.if-stays.true v.spend.ensures v.if-not-spend.false in
+        rw (v.words-is, v.skip-is, v.kept-is, v.bytes-is, v.to-is)
+        (length_spent v.spend.ensures (search rules), search (entry_left_out, skipped, rules))
+    | else-stays v ↦ rw (v.words-is, v.skip-is, v.kept-is, v.bytes-is, v.to-is) (search rules, search (entry_left_out, first_goes, rules))
     ]
 
 pub returns : goal.returns

@@ -1,0 +1,15 @@
+use borrow.Author.Rules.{rules}
+use Rattle.table_records.proofs.Places.{position_past, position_before, position_behind, position_here}
+use Rattle.table_promotion.proofs.taking.position_but.Goals as goal
+
+pub returns-then-records-position : goal.returns-then-records-position
+returns-then-records-position c = search (position_past, rules)
+
+pub returns-then-position-at : goal.returns-then-position-at
+returns-then-position-at c = search (position_before, rules)
+
+pub returns-then-at-position : goal.returns-then-at-position
+returns-then-at-position c = search (position_behind, rules)
+
+pub returns : goal.returns
+returns c = search (position_here, rules)
