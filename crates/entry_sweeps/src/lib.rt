@@ -1,4 +1,6 @@
 // The sweeps of the entries of a table by a test on each entry alone, which need no array (docs/LAYOUT.md).
+#![tactic(auto)]
+
 mod packing_sweeps;
 mod stay_sweeps;
 

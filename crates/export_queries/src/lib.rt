@@ -1,4 +1,6 @@
 // Limits as numbers, opening a cache with them, and the queries, over numbers and slices only.
+#![tactic(auto)]
+
 mod opening;
 mod queries;
 

@@ -1,4 +1,6 @@
 // The calls that change a pending flow cache in lent areas (pending_flows.rs).
+#![tactic(auto)]
+
 mod clearing;
 mod counters;
 mod removal;

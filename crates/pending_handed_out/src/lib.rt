@@ -1,4 +1,6 @@
 // Handed-out bodies of a pending flow cache that may still be put back, by their number from 0 (pending_flows.rs).
+#![tactic(auto)]
+
 ghost use Rattle.pending_flows.specs.View.{areas_of};
 ghost use Rattle.pending_handed_out.specs.HandedOut.{PlacesHandedOut, ReadsHandedOut};
 

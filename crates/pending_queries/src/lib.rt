@@ -1,4 +1,6 @@
 // The queries on a pending flow cache in lent areas (pending_flows.rs).
+#![tactic(auto)]
+
 ghost use Rattle.std.specs.Prelude.{◌≡◌, true, length};
 ghost use Rattle.table.specs.Table.{table_of};
 ghost use Rattle.table.specs.WellFormed.{well_formed};

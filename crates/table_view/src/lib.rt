@@ -1,1 +1,2 @@
 // Laws: the tables that sweeps, closings and additions leave, and the caches that they stand for.
+#![tactic(auto)]
