@@ -2,6 +2,6 @@ pub mod Performed
 pub mod Headers
 pub mod Clearings
 pub mod Removals
-pub mod Removed
+pub mod RemovedLemmas
 pub mod NoneRemoved
 pub mod WholeRemoved

@@ -43,8 +43,8 @@ use Rattle.table_view.proofs.AllStay.{everything_swept}
 use Rattle.pending_calls.specs.declared.removal.Removed.{Removed}
 use Rattle.pending_calls.specs.Removal.{everything, counted, counted_but, Removes, RemovesFrom}
 use Rattle.pending_calls.proofs.Removals.{removal_done, closed_apart}
-use Rattle.pending_calls.proofs.Removed.{TiedRows, rows_tied, rows_placed, few_templates, few_bodies}
-use Rattle.pending_calls.proofs.Removed.{total_short, entries_below_records, records_within}
+use Rattle.pending_calls.proofs.RemovedLemmas.{TiedRows, rows_tied, rows_placed, few_templates, few_bodies}
+use Rattle.pending_calls.proofs.RemovedLemmas.{total_short, entries_below_records, records_within}
 
 -- two removals that keep the same entries
 pub removes_alike : {q q' : StayTest} {p k m apart : ℕ} {skip skip' w w' : List ℕ} {r : Removed} →

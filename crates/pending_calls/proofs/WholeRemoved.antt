@@ -42,8 +42,8 @@ use Rattle.table_view.proofs.Removed.{label_counts_lem}
 use Rattle.pending_calls.specs.declared.removal.Removed.{Removed}
 use Rattle.pending_calls.specs.Removal.{everything, unexpired, counted, ClosesApart, SkipsWhole, RemovesFrom}
 use Rattle.pending_calls.proofs.Removals.{removal_done}
-use Rattle.pending_calls.proofs.Removed.{TiedRows, rows_tied, rows_placed, few_bodies, entries_below_records}
-use Rattle.pending_calls.proofs.Removed.{records_within}
+use Rattle.pending_calls.proofs.RemovedLemmas.{TiedRows, rows_tied, rows_placed, few_bodies, entries_below_records}
+use Rattle.pending_calls.proofs.RemovedLemmas.{records_within}
 use Rattle.pending_calls.proofs.NoneRemoved.{entries_short}
 
 -- where the expired bodies of one label go, all bodies of another stay

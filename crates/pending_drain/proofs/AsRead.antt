@@ -16,7 +16,7 @@ use Rattle.table.proofs.FoundLabels.{label_for}
 use Rattle.pending_flows.specs.declared.header.HeaderFigures.{HeaderFigures}
 use Rattle.pending_flows.specs.Header.{figures_at}
 use Rattle.pending_flows.proofs.Questions.{first_records}
-use Rattle.pending_calls.proofs.Removed.{entries_below_records, records_within}
+use Rattle.pending_calls.proofs.RemovedLemmas.{entries_below_records, records_within}
 
 -- the limits and figures that words hold, and where their records begin
 module _ (w : List ℕ) {l : PendingFlowsConfig} {f : HeaderFigures} {p : ℕ} (limits : l ≡ limits_of w)

@@ -25,7 +25,7 @@ use Rattle.pending_flows.proofs.Figures.{handed_few}
 use Rattle.pending_calls.specs.declared.removal.Removed.{Removed}
 use Rattle.pending_calls.specs.Promises.{Does}
 use Rattle.pending_calls.proofs.Performed.{damaged_performs, performed, untouched_all}
-use Rattle.pending_calls.proofs.Removed.{records_within}
+use Rattle.pending_calls.proofs.RemovedLemmas.{records_within}
 use Rattle.pending_drain.specs.declared.draining.DrainAnswer.TheVariants as Drain
 use Rattle.pending_drain.specs.Handing.{TakesOut, HandsOut}
 use Rattle.pending_drain.specs.Promises.{Drains}

@@ -29,7 +29,7 @@ use Rattle.pending_flows.proofs.Templates.{length_bodies}
 use Rattle.pending_flows.proofs.Weights.{count_append}
 use Rattle.table_view.proofs.Tied.{apart_tied}
 use Rattle.table_view.proofs.Added.{new_record, added_tied}
-use Rattle.pending_calls.proofs.Removed.{TiedRows, TiedRowsApart}
+use Rattle.pending_calls.proofs.RemovedLemmas.{TiedRows, TiedRowsApart}
 use Rattle.pending_drain.specs.Handing.{HandsOut}
 
 -- k held records from word p on, one behind them where bodies are handed out, and m entries

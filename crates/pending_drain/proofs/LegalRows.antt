@@ -24,8 +24,8 @@ use Rattle.table_view.proofs.Removed.{placed_short}
 use Rattle.table_view.proofs.Summed.{len_most}
 use Rattle.pending_calls.specs.declared.removal.Removed.{Removed}
 use Rattle.pending_calls.specs.Removal.{RemovesFrom}
-use Rattle.pending_calls.proofs.Removed.{TiedRowsApart, rows_left, placed_left, apart_left, rows_tied, rows_placed}
-use Rattle.pending_calls.proofs.Removed.{bytes_left, few_templates, few_bodies, total_short, entries_below_records}
+use Rattle.pending_calls.proofs.RemovedLemmas.{TiedRowsApart, rows_left, placed_left, apart_left, rows_tied, rows_placed}
+use Rattle.pending_calls.proofs.RemovedLemmas.{bytes_left, few_templates, few_bodies, total_short, entries_below_records}
 
 module _ (w b : List ℕ) (legal : LegalWords w (length b)) where
   pub bodies_within : Within (length b) (table_of w).entries

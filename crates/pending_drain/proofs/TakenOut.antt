@@ -36,7 +36,7 @@ use Rattle.table_view.proofs.Totals.{lens_apart}
 use Rattle.table_view.proofs.Summed.{everything, len_most}
 use Rattle.pending_calls.specs.declared.removal.Removed.{Removed}
 use Rattle.pending_calls.specs.Removal.{unexpired, counted, Removes}
-use Rattle.pending_calls.proofs.Removed.{TiedRowsApart}
+use Rattle.pending_calls.proofs.RemovedLemmas.{TiedRowsApart}
 use Rattle.pending_drain.specs.Handing.{zeros, TakesOut}
 use Rattle.pending_drain.proofs.Handing.{length_zeros}
 use Rattle.pending_drain.proofs.LegalRows.{bodies_within, bodies_short, entries_few, handed_single, held_long}

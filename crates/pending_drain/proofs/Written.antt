@@ -22,7 +22,7 @@ use Rattle.pending_flows.proofs.Questions.{first_records}
 use Rattle.table_view.proofs.Stored.{Stored, table_with, stored_view}
 use Rattle.pending_calls.specs.Promises.{UntouchedPast}
 use Rattle.pending_calls.proofs.Headers.{headed, headed_flag, headed_limits, headed_length, headed_behind}
-use Rattle.pending_calls.proofs.Removed.{TiedRows}
+use Rattle.pending_calls.proofs.RemovedLemmas.{TiedRows}
 
 module _ (w b w' : List ℕ) (legal : LegalWords w (length b)) (f : HeaderFigures) (long : length w' ≡ length w) where
   abbrev l : PendingFlowsConfig

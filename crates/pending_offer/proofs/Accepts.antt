@@ -20,7 +20,7 @@ use Rattle.pending_flows.specs.declared.header.HeaderFigures.{HeaderFigures}
 use Rattle.pending_flows.specs.Header.{figures_at, header_of}
 use Rattle.pending_calls.specs.declared.removal.Removed.{Removed}
 use Rattle.pending_calls.specs.Promises.{Does}
-use Rattle.pending_calls.proofs.Removed.{TiedRows}
+use Rattle.pending_calls.proofs.RemovedLemmas.{TiedRows}
 use Rattle.offer_plan.specs.declared.plan.OfferPlan.{OfferPlan}
 use Rattle.pending_offer.specs.Promises.{body_of}
 use Rattle.offer_steps.specs.Room.{RoomFor, AddsBody}

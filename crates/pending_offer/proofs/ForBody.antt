@@ -21,7 +21,7 @@ use Rattle.table_entries.specs.Pack.{last_end, packed_entries, packed_end}
 use Rattle.table_entries.proofs.Packed.{packed_placed, last_packed, packed_again}
 use Rattle.table_records.proofs.Frames.{records_above, index_above}
 use Rattle.pending_calls.specs.declared.removal.Removed.{Removed}
-use Rattle.pending_calls.proofs.Removed.{entries_below_records}
+use Rattle.pending_calls.proofs.RemovedLemmas.{entries_below_records}
 use Rattle.offer_plan.specs.declared.plan.OfferPlan.{OfferPlan}
 use Rattle.offer_steps.specs.Room.{fits_behind, RoomFor, AddsBody, LabelRoom, ChoosesLabel}
 use Rattle.packed_removal.specs.ForBody.{PacksFor, LeftFor, RemovesForBody}

@@ -34,7 +34,7 @@ use Rattle.table_view.proofs.Tied.{tied_apart}
 use Rattle.table_view.proofs.Removed.{label_counts_but, label_counts, none_set}
 use Rattle.table_view.proofs.Summed.{everything}
 use Rattle.pending_calls.specs.declared.removal.Removed.{Removed}
-use Rattle.pending_calls.proofs.Removed.{TiedRowsApart}
+use Rattle.pending_calls.proofs.RemovedLemmas.{TiedRowsApart}
 use Rattle.offer_plan.specs.declared.plan.OfferPlan.{OfferPlan}
 use Rattle.offer_plan.specs.Plan.{plan_test, skip_of, Plans}
 use Rattle.offer_steps.specs.Room.{LabelRoom, ChoosesLabel}

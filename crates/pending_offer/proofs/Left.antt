@@ -41,8 +41,8 @@ use Rattle.table_view.proofs.Closed.{Left, closed_templates, closed_append, clos
 use Rattle.table_view.proofs.Removed.{label_counts, label_counts_but, label_counts_lem, none_set, placed_short}
 use Rattle.table_view.proofs.Summed.{len_most}
 use Rattle.pending_calls.specs.declared.removal.Removed.{Removed}
-use Rattle.pending_calls.proofs.Removed.{TiedRowsApart, placed_left, apart_left, rows_left, rows_tied}
-use Rattle.pending_calls.proofs.Removed.{bytes_left, rows_placed, few_templates, few_bodies, total_short}
+use Rattle.pending_calls.proofs.RemovedLemmas.{TiedRowsApart, placed_left, apart_left, rows_left, rows_tied}
+use Rattle.pending_calls.proofs.RemovedLemmas.{bytes_left, rows_placed, few_templates, few_bodies, total_short}
 use Rattle.offer_plan.specs.declared.plan.OfferPlan.{OfferPlan}
 use Rattle.offer_plan.specs.Plan.{plan_test, skip_of, Plans}
 use Rattle.offer_plan.proofs.Skips.{skips_long}

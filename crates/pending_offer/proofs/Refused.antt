@@ -25,7 +25,7 @@ use Rattle.pending_flows.specs.Header.{figures_at, header_of}
 use Rattle.table_view.proofs.Tied.{no_label_tied}
 use Rattle.pending_calls.specs.declared.removal.Removed.{Removed}
 use Rattle.pending_calls.specs.Promises.{Does}
-use Rattle.pending_calls.proofs.Removed.{TiedRows}
+use Rattle.pending_calls.proofs.RemovedLemmas.{TiedRows}
 use Rattle.offer_plan.specs.declared.plan.OfferPlan.{OfferPlan}
 use Rattle.offer_plan.specs.Plan.{Plans}
 use Rattle.pending_offer.specs.Promises.{body_of}

@@ -38,7 +38,7 @@ use Rattle.table_view.proofs.Totals.{lens_owned}
 use Rattle.table_view.proofs.Stored.{Stored, table_with, legal_limited, stored_view}
 use Rattle.pending_calls.specs.Promises.{Does}
 use Rattle.pending_calls.proofs.Headers.{headed, headed_limits, headed_flag, headed_length, headed_behind}
-use Rattle.pending_calls.proofs.Removed.{TiedRows}
+use Rattle.pending_calls.proofs.RemovedLemmas.{TiedRows}
 use Rattle.offer_steps.specs.Settle.{settled_figures}
 
 -- a header over rows that no template is handed out from

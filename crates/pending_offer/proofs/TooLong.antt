@@ -25,7 +25,7 @@ use Rattle.pending_flows.specs.View.{areas_of, cache_of, view}
 use Rattle.pending_flows.specs.Header.{dropped_at}
 use Rattle.table_view.proofs.Stored.{Stored, legal_limited, stored_view}
 use Rattle.pending_calls.specs.Promises.{Does}
-use Rattle.pending_calls.proofs.Removed.{rows_tied, rows_placed}
+use Rattle.pending_calls.proofs.RemovedLemmas.{rows_tied, rows_placed}
 
 module _ (w b : List ℕ) (ok : well_formed w (length b) ≡ true) where
   legal : LegalWords w (length b)

@@ -34,7 +34,7 @@ use Rattle.table_view.proofs.Stored.{table_with, legal_limited}
 use Rattle.pending_calls.specs.declared.removal.Removed.{Removed}
 use Rattle.pending_calls.specs.Promises.{Does}
 use Rattle.pending_calls.proofs.Headers.{headed}
-use Rattle.pending_calls.proofs.Removed.{TiedRows}
+use Rattle.pending_calls.proofs.RemovedLemmas.{TiedRows}
 use Rattle.pending_restore.specs.Restoring.{HasChance, TakesBack}
 use Rattle.pending_drain.proofs.LegalRows.{bodies_within, bodies_short, entries_few, held_limited, removed_tied}
 use Rattle.pending_drain.proofs.LegalRows.{removed_placed, removed_bytes}

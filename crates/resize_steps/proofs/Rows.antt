@@ -29,7 +29,7 @@ use Rattle.table_view.proofs.Removed.{removed_apart}
 use Rattle.table_view.proofs.Swept.{body_stays, Within, placed_within, swept_bodies, swept_tally}
 use Rattle.table_view.proofs.Closed.{closed_templates}
 use Rattle.table_view.proofs.Summed.{len_most}
-use Rattle.pending_calls.proofs.Removed.{bytes_left}
+use Rattle.pending_calls.proofs.RemovedLemmas.{bytes_left}
 use Rattle.resize_steps.specs.Removing.{counts_of, RemovesSkipped}
 
 -- k records from word p on and m entries; their bodies end within `most` bytes

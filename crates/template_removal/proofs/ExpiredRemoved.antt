@@ -42,7 +42,7 @@ use Rattle.table_view.proofs.Tied.{entries_small, none_past}
 use Rattle.pending_calls.specs.Removal.{everything, unexpired, counted, counted_but, Removes, RemovesFrom}
 use Rattle.pending_calls.proofs.NoneRemoved.{entries_short}
 use Rattle.pending_calls.proofs.Removals.{removal_done, closed_apart}
-use Rattle.pending_calls.proofs.Removed.{TiedRows, rows_tied, few_templates, entries_below_records, records_within}
+use Rattle.pending_calls.proofs.RemovedLemmas.{TiedRows, rows_tied, few_templates, entries_below_records, records_within}
 use Rattle.table_promotion.specs.declared.taking.Taken.{Taken}
 use Rattle.table_promotion.specs.Taking.{TakesLabel}
 use Rattle.table_promotion.proofs.TakenLabels.{label_closes}

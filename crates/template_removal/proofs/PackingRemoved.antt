@@ -34,7 +34,7 @@ use Rattle.pending_flows.specs.declared.header.HeaderFigures.{HeaderFigures}
 use Rattle.pending_flows.specs.Header.{figures_at}
 use Rattle.pending_calls.specs.declared.removal.Removed.{Removed}
 use Rattle.pending_calls.specs.Removal.{everything, unexpired, counted_but, RemovesTo}
-use Rattle.pending_calls.proofs.Removed.{entries_below_records, records_within}
+use Rattle.pending_calls.proofs.RemovedLemmas.{entries_below_records, records_within}
 use Rattle.template_removal.specs.Packing.{RemovesPacking}
 use Rattle.template_removal.specs.Taking.{TakesBoth}
 use Rattle.template_removal.proofs.TemplateRemoved.{others_swept, others_removed}

@@ -50,7 +50,7 @@ use Rattle.pending_calls.specs.declared.removal.Removed.{Removed}
 use Rattle.pending_calls.specs.Removal.{everything, unexpired, counted, counted_but, RemovesTo, RemovesFrom}
 use Rattle.pending_calls.proofs.NoneRemoved.{entries_short}
 use Rattle.pending_calls.proofs.Removals.{removal_to, closed_apart}
-use Rattle.pending_calls.proofs.Removed.{TiedRows, rows_tied, few_templates, entries_below_records, records_within}
+use Rattle.pending_calls.proofs.RemovedLemmas.{TiedRows, rows_tied, few_templates, entries_below_records, records_within}
 use Rattle.table_promotion.specs.declared.taking.Taken.{Taken}
 use Rattle.table_promotion.specs.Taking.{TakesLabel}
 use Rattle.template_removal.specs.Taking.{TakesBoth}

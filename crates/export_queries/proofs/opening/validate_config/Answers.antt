@@ -1,6 +1,4 @@
 use mathlib.Core.Path.{◌∙◌}
-  statement,
-}
 use Rattle.export_queries.proofs.opening.validate_config.Goals as goal
 
 pub returns : goal.returns

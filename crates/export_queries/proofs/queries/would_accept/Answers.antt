@@ -1,7 +1,5 @@
 use Rattle.export_queries.proofs.Exports.{exports_query}
 use borrow.Author.Rules.{rules}
-  statement,
-}
 use Rattle.export_queries.proofs.queries.would_accept.Goals as goal
 
 pub returns : goal.returns

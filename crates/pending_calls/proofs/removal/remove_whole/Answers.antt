@@ -16,21 +16,15 @@ pub count_whole-requires : goal.count_whole-requires
 count_whole-requires c = search (records_inside, rules)
 
 pub sweep-left-requires : goal.sweep-left-requires
-sweep-left-requires c = let start = start_of (read_of (counted_of c.before)) in
-    sweep_room _ start.args.bytes.now start.pre.0.0 start.pre.1.1 start.pre.1.0
+sweep-left-requires c = sweep_room _ c.args.bytes.now c.requires.bytes_value.0 c.requires.figures_value.1 c.requires.figures_value.0
 
 pub close_apart-requires : goal.close_apart-requires
-close_apart-requires c = let read = read_of (counted_of (all_of c)) in
-    let ok = (start_of read).pre.0.0 in
-    let figures = (start_of read).pre.1.0 in
-    let inside = records_inside _ _ ok _ figures _ (start_of read).pre.0.1 _ read.records-at.ensures in
-    (omega (arith, inside, c.sweep-left.auto.0), records_few _ _ ok _ figures)
+close_apart-requires c = let ok = c.requires.bytes_value.0 in
+    let figures = c.requires.figures_value.0 in
+    let inside = records_inside _ _ ok _ figures _ c.requires.bytes_value.1 _ c.records_at-from.ensures in
+    (omega (arith, inside, c.sweep-left.auto.words), records_few _ _ ok _ figures)
 
 pub returns : goal.returns
-returns c = let all = all_of c in
-    let counted = counted_of all in
-    let read = read_of counted in
-    let start = start_of read in
-    whole_removed _ start.args.bytes.now start.pre.0.0 start.pre.1.1 _ start.pre.1.0
-    start.pre.0.1 read.records-at.ensures counted.count-whole.ensures all.stay_all.ensures refl
-    c.sweep-left.ensures c.close_apart.ensures (c.close_apart.auto.0 ∙ c.sweep-left.auto.0)
+returns c = whole_removed _ c.args.bytes.now c.requires.bytes_value.0 c.requires.figures_value.1 _ c.requires.figures_value.0
+    c.requires.bytes_value.1 c.records_at-from.ensures c.count_whole.ensures c.stay_all.ensures refl
+    c.sweep-left.ensures c.close_apart.ensures (c.close_apart.auto.words ∙ c.sweep-left.auto.words)
