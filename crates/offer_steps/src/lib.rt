@@ -1,4 +1,6 @@
 // The steps of an offer (pending_flows.rs): room for the body and the body in it, the header.
+#![tactic(auto)]
+
 mod settling;
 mod storing;
 

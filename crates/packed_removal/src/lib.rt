@@ -1,4 +1,6 @@
 // Removing what the plan of an offer removes, and packing in the same pass where it is certain that the body needs it.
+#![tactic(auto)]
+
 ghost use Rattle.std.specs.Prelude.{◌≡◌, true, ◌+◌, ◌*◌, ◌≤◌, length};
 ghost use Rattle.config.specs.Limits.{entry_words};
 ghost use Rattle.table.specs.Layout.{limits_of, held_count, entries_at};

@@ -1,4 +1,6 @@
 // Draining a pending flow cache (pending_flows.rs).
+#![tactic(auto)]
+
 mod draining;
 
 pub use draining::{DrainAnswer, drain};

@@ -1,4 +1,6 @@
 // Offering a body to a pending flow cache (pending_flows.rs).
+#![tactic(auto)]
+
 mod offering;
 
 pub use offering::{OfferAnswer, OfferRefusal, cache};

@@ -1,4 +1,6 @@
 // Resizing a pending flow cache (pending_flows.rs).
+#![tactic(auto)]
+
 mod resizing;
 mod shrinking;
 

@@ -1,4 +1,6 @@
 // Removing what the plan of an offer removes (pending_flows.rs).
+#![tactic(auto)]
+
 ghost use Rattle.std.specs.Prelude.{◌≡◌, true, ◌+◌, ◌≤◌, ◌<◌, length};
 ghost use Rattle.table.specs.Layout.{limits_of, held_count};
 ghost use Rattle.table.specs.WellFormed.{well_formed};

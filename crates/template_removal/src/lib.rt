@@ -1,4 +1,6 @@
 // Removing one template whole, or its expired bodies, without an array (pending_flows.rs).
+#![tactic(auto)]
+
 mod expired;
 mod packing;
 

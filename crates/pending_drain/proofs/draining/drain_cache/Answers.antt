@@ -1,0 +1,60 @@
+use mathlib.Core.Path.{◌∙◌}
+use Rattle.table.proofs.Lookups.{bodies_told}
+use Rattle.pending_flows.proofs.Questions.{bodies_few, header_within}
+use Rattle.pending_drain.proofs.AsRead.{held_room, entries_room}
+use Rattle.pending_drain.proofs.Drains.{hand_ready, Settling, settling}
+use Rattle.pending_drain.proofs.Drains.{drain_done}
+use borrow.Author.Rules.{rules}
+use Rattle.pending_drain.proofs.draining.drain_cache.Goals as goal
+
+pub limits_at-limits-requires : goal.limits_at-limits-requires
+limits_at-limits-requires c = search (header_within, rules)
+
+pub figures_at-figures-requires : goal.figures_at-figures-requires
+figures_at-figures-requires c = search (header_within, rules)
+
+pub records_at-from-requires : goal.records_at-from-requires
+records_at-from-requires c = search (bodies_few, rules)
+
+pub label_for-label-requires : goal.label_for-label-requires
+label_for-label-requires c = search (held_room, rules)
+
+pub live_figures-live-requires : goal.live_figures-live-requires
+live_figures-live-requires c = search (entries_room, rules)
+
+pub take_label-removed-requires : goal.take_label-removed-requires
+take_label-removed-requires c = record { bytes_value = (c.requires.0, c.limits_at-limits.ensures); figures_value = (c.figures_at-figures.ensures, c.records_at-from.ensures); label_value = c.label_for-label.ensures; live_value = bodies_told _ _ _ _ c.live_figures-live.ensures }
+
+pub hand_out-chance-requires : goal.hand_out-chance-requires
+hand_out-chance-requires c = hand_ready _ c.args.bytes.now _ _ c.requires.0
+    c.limits_at-limits.ensures c.figures_at-figures.ensures c.records_at-from.ensures
+    c.label_for-label.ensures c.take_label-removed.ensures
+
+settled : (c : tie.After-hand-out) →
+    Settling (figured (labelled (live c))).figures-at.result.entries
+    (handed (labelled (live c))).handed-count.result (taken c).take-label.result.entries
+    (taken c).take-label.result.bytes (live c).live-figures.result.bytes c.hand-out.new.0
+settled c =
+    let h : tie.After-label-for = labelled (live c) in
+    settling _ (start h).args.bytes.now _ _ (start h).pre.0 (limited h).limits-at.ensures
+    (figured h).figures-at.ensures (placed h).records-at.ensures h.label-for.ensures
+    (taken c).take-label.ensures (live c).live-figures.ensures (start h).pre.1 c.hand-out.ensures
+    (c.hand-out.auto.0 ∙ (taken c).take-label.auto.0) (handed h).handed-count.ensures
+
+pub dropped_after-requires : goal.dropped_after-requires
+dropped_after-requires c = let done = settled c.before in
+    (done.less_handed, done.less_left)
+
+pub total_after-requires : goal.total_after-requires
+total_after-requires c = (settled c.before).less_live
+
+pub write_header-requires : goal.write_header-requires
+write_header-requires c = (settled c.before).header_fits
+
+pub returns : goal.returns
+returns c = drain_done _ _ _ _ c.requires.0 c.limits_at-limits.ensures c.figures_at-figures.ensures
+    c.records_at-from.ensures c.label_for-label.ensures c.take_label-removed.ensures
+    c.live_figures-live.ensures c.requires.1 c.hand_out-chance.ensures
+    (c.hand_out-chance.auto.words ∙ c.take_label-removed.auto.words) c.handed_count-handed.ensures
+    c.dropped_after.ensures c.total_after.ensures
+    c.write_header.ensures

@@ -1,0 +1,57 @@
+use Prim.Native.Nat.{◌+◌, ◌*◌, ◌≤◌}
+use lib.ListN.{length}
+use borrow.Author.Rules.{rules}
+use Rattle.config.specs.Limits.{record_words}
+use Rattle.pending_drain.proofs.AsRead.{held_room}
+use Rattle.pending_calls.proofs.NoneRemoved.{records_inside}
+use Rattle.pending_drain.proofs.NoneTaken.{none_taken}
+use Rattle.pending_drain.proofs.SomeTaken.{skips_whole, live_stay, some_taken, expired_taken}
+use Rattle.pending_drain.proofs.draining.take_label.Goals as goal
+
+pub nothing_goes-requires : goal.nothing_goes-requires
+nothing_goes-requires c = search (held_room, rules)
+
+pub remove_none-requires : goal.remove_none-requires
+remove_none-requires c = record { bytes_value = search rules; figures_value = (search rules, (c.nothing_goes.ensures (search rules)).hands_none) }
+
+pub returns-then-nothing_goes : goal.returns-then-nothing_goes
+returns-then-nothing_goes c = search (none_taken, rules)
+
+pub returns-then-figures-eq0 : goal.returns-then-figures-eq0
+returns-then-figures-eq0 c = search (expired_taken, rules)
+
+-- the records lie within the words
+inside : (s : tie.Start) → s.args.from + record_words * (s.args.figures.templates + s.args.figures.chance)
+    ≤ length s.args.words.now
+inside s =
+    records_inside _ (length s.args.bytes.now) s.requires.0.0 _ s.requires.1.0.0 _ s.requires.0.1 _
+    s.requires.1.0.1
+
+pub overflow_mul-handed : goal.overflow_mul-handed
+overflow_mul-handed c = search (inside c, rules)
+
+pub overflow_add-handed : goal.overflow_add-handed
+overflow_add-handed c = search (inside c, rules)
+
+pub skip_records-requires : goal.skip_records-requires
+skip_records-requires c = search (inside c, rules)
+
+pub remove_expired-requires : goal.remove_expired-requires
+remove_expired-requires c = let skips = c.skip_records.ensures in
+    let figures = c.requires.figures_value.0 in
+    let from = c.requires.figures_value.1 in
+    let labelled = c.requires.label_value in (
+      c.requires.bytes_value,
+      (
+        (
+          figures,
+          skips_whole _ c.args.bytes.now _ c.requires.bytes_value.0 c.requires.bytes_value.1 figures from labelled
+              c.args.clock skips,
+        ),
+        live_stay _ c.args.bytes.now _ c.requires.bytes_value.0 c.requires.bytes_value.1 figures from labelled _ skips _
+            c.requires.live_value,
+      ),
+    )
+
+pub returns : goal.returns
+returns c = search (some_taken, rules)
