@@ -43,7 +43,7 @@ def snake(name):
 def own_names(root):
     names = set()
     for p in files(os.path.join(root, "crates"), ".antt"):
-        if os.path.basename(p) in MADE:
+        if os.path.basename(p) in MADE and os.path.basename(os.path.dirname(p)) != "proofs":
             continue
         for line in read(p).split("\n"):
             m = STATED.match(line)

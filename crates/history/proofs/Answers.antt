@@ -52,17 +52,17 @@ number_of (tells f) = 0
 pub below28 : (r : Answer) → number_of r < 28 → r ≢ number 28
 below28 r h e = omega (arith, ap number_of e)
 
-pub config-number-small : (l : PendingFlowsConfig) (bytes words : ℕ) → config_number l bytes words ≤ 5
+pub config_number_small : (l : PendingFlowsConfig) (bytes words : ℕ) → config_number l bytes words ≤ 5
 unfolding config_number limits_number
-config-number-small l bytes words =
-    small (eqb (limits_number l) 0) (small (areas_hold l bytes words) (omega arith) (omega arith)) limits-small
+config_number_small l bytes words =
+    small (eqb (limits_number l) 0) (small (areas_hold l bytes words) (omega arith) (omega arith)) limits_small
   where
     small : (q : Bool) {m n : ℕ} → m ≤ 5 → n ≤ 5 → cond q m n ≤ 5
     small true h g = h
     small false h g = g
 
-    limits-small : limits_number l ≤ 5
-    limits-small =
+    limits_small : limits_number l ≤ 5
+    limits_small =
         let templates = l.max_pending_flows in
         let entries = l.max_entries_per_template in
         let entry = l.max_entry_size_bytes in
@@ -71,90 +71,90 @@ config-number-small l bytes words =
         (small (ltb 65531 entry) (omega arith) (small (eqb total 0) (omega arith)
         (small (ltb total entry) (omega arith) (omega arith))))))
 
-or-27-below28 : (q : Bool) (r : Answer) → number_of r < 28 → number_of (cond q r (number 27)) < 28
-or-27-below28 true r h = h
-or-27-below28 false r h = omega arith
+or_27_below28 : (q : Bool) (r : Answer) → number_of r < 28 → number_of (cond q r (number 27)) < 28
+or_27_below28 true r h = h
+or_27_below28 false r h = omega arith
 
 -- of a call that is no offer
-tells-nothing : (r : Answer) (d : Change) → d.accepted ≡ [] → refusals_in d.drops ≡ [] → number_of r < 28
+tells_nothing : (r : Answer) (d : Change) → d.accepted ≡ [] → refusals_in d.drops ≡ [] → number_of r < 28
     → Tells [] r d
-tells-nothing r d e f h = record {
+tells_nothing r d e f h = record {
   accepted = e ∙ sym (cond_same (is_done r) []);
   refusals = f ∙ ap ordinals (sym (cond_same (is_refusal r) []));
   not28 = below28 r h;
 }
 
-tells-no-refusal : (r : Answer) (c : Cache) (bs cs : List Body) → number_of r < 28 → Tells [] r (chance_ends c bs cs)
-tells-no-refusal r c bs cs h = tells-nothing r (chance_ends c bs cs) refl (no_refusals bs) h
+tells_no_refusal : (r : Answer) (c : Cache) (bs cs : List Body) → number_of r < 28 → Tells [] r (chance_ends c bs cs)
+tells_no_refusal r c bs cs h = tells_nothing r (chance_ends c bs cs) refl (no_refusals bs) h
 
 -- of an offer, after the size test, with a verdict that it can get within the limits
-tells-verdict : (c : Cache) (b : Body) (s : Split) (full : Bool) → let v = cond full (refused 20) accepted in
+tells_verdict : (c : Cache) (b : Body) (s : Split) (full : Bool) → let v = cond full (refused 20) accepted in
     Tells (b ∷ []) (verdict_answer v) (offer_change c b (record { verdict = v; left = s }))
-tells-verdict c b s true = record {
+tells_verdict c b s true = record {
   accepted = refl;
   refusals = refusals_append (map body s.removed) (refused_offer b.number ∷ [])
       ∙ ap (λ (ks : List ℕ). ks ++ (b.number ∷ [])) (no_refusals s.removed);
   not28 = below28 (number 20) (omega arith);
 }
-tells-verdict c b s false = record {
+tells_verdict c b s false = record {
   accepted = refl;
   refusals = refusals_append (map body s.removed) [] ∙ append-nil (refusals_in (map body s.removed))
       ∙ no_refusals s.removed;
   not28 = below28 done (omega arith);
 }
 
-offer-tells : (c : Cache) → Limited c → (i : ℕ) (b : Body) → size b ≤ c.limits.max_entry_size_bytes
+offer_tells : (c : Cache) → Limited c → (i : ℕ) (b : Body) → size b ≤ c.limits.max_entry_size_bytes
     → let o = steps2to5 c.limits (expired c.limits.ttl b.clock) i b c.held in
     Tells (b ∷ []) (verdict_answer o.verdict) (offer_change c b o)
-offer-tells c h i b small =
+offer_tells c h i b small =
     let l = c.limits in
     let old = expired l.ttl b.clock in
     let s = (steps2to5 l old i b c.held).left in
     let full = leb l.max_entries_per_template (unexpired l old i b c.held) in
     subst (λ (v : Verdict). Tells (b ∷ []) (verdict_answer v) (offer_change c b (record { verdict = v; left = s })))
-    (sym (verdict_in_full l old i b h.legal small c.held (held_within c h).differ)) (tells-verdict c b s full)
+    (sym (verdict_in_full l old i b h.legal small c.held (held_within c h).differ)) (tells_verdict c b s full)
 
-offered-tells : (k i : ℕ) (bytes : List ℕ) (now : ℕ) (c : Cache) → Limited c
+offered_tells : (k i : ℕ) (bytes : List ℕ) (now : ℕ) (c : Cache) → Limited c
     → let b : Body = record { number = k; bytes = bytes; clock = now } in
     Tells (b ∷ []) (offered i b c).answer (change k (Offer i bytes now) c)
 unfolding change offered settled refused_size
-offered-tells k i bytes now c h =
+offered_tells k i bytes now c h =
     let b : Body = record { number = k; bytes = bytes; clock = now } in
     let most = c.limits.max_entry_size_bytes in
     by_test (λ o d. Tells (b ∷ []) o.answer d) (ltb most (size b))
     (λ _. record { accepted = refl; refusals = refl; not28 = below28 (number 6) (omega arith) })
-    (λ e. offer-tells c h i b (ltb-false most (size b) e))
+    (λ e. offer_tells c h i b (ltb-false most (size b) e))
 
-call-tells : (k : ℕ) (x : Call) (c : Cache) → Limited c
+call_tells : (k : ℕ) (x : Call) (c : Cache) → Limited c
     → Tells (offered_by k (call x)) (does k x c).answer (change k x c)
 unfolding does change drained put_back resized resized_to cleared read_handed_out place_handed_out
-call-tells k (Offer i bytes now) c h = offered-tells k i bytes now c h
-call-tells k (Drain i now) c h =
+call_tells k (Offer i bytes now) c h = offered_tells k i bytes now c h
+call_tells k (Drain i now) c h =
     let old = keep (λ b. expired c.limits.ttl now b) (bodies_of i c.held) in
-    tells-no-refusal (drained i now c).answer c old [] (omega arith)
-call-tells k (PutBack i n) c h =
+    tells_no_refusal (drained i now c).answer c old [] (omega arith)
+call_tells k (PutBack i n) c h =
     let Told : Outcome → Change → Type 0 = λ o d. Tells [] o.answer d in
     by_test Told (eqb n 0)
-    (λ _. tells-nothing done no_change refl refl (omega arith))
+    (λ _. tells_nothing done no_change refl refl (omega arith))
     (λ _. by_test Told (may_put_back i n c)
-    (λ _. tells-nothing done (put_back_change n c) refl refl (omega arith))
-    (λ _. tells-nothing (number 25) no_change refl refl (omega arith)))
-call-tells k (Resize l bytes words) c h =
+    (λ _. tells_nothing done (put_back_change n c) refl refl (omega arith))
+    (λ _. tells_nothing (number 25) no_change refl refl (omega arith)))
+call_tells k (Resize l bytes words) c h =
     let n = config_number l bytes words in
     let removed = (shrunk l c.held).removed in
     by_test (λ o d. Tells [] o.answer d) (eqb n 0)
-    (λ _. tells-no-refusal (count (length removed)) c removed [] (omega arith))
-    (λ _. tells-nothing (number n) no_change refl refl (omega (arith, config-number-small l bytes words)))
-call-tells k Clear c h = tells-no-refusal done c [] (all_bodies c.held) (omega arith)
-call-tells k (WouldAccept i n now) c h =
-    tells-nothing (says (would_accept i n now c)) no_change refl refl (omega arith)
-call-tells k (ReadHandedOut n) c h =
-    tells-nothing (read_handed_out n c) no_change refl refl (omega arith)
-call-tells k (PlaceHandedOut n) c h =
+    (λ _. tells_no_refusal (count (length removed)) c removed [] (omega arith))
+    (λ _. tells_nothing (number n) no_change refl refl (omega (arith, config_number_small l bytes words)))
+call_tells k Clear c h = tells_no_refusal done c [] (all_bodies c.held) (omega arith)
+call_tells k (WouldAccept i n now) c h =
+    tells_nothing (says (would_accept i n now c)) no_change refl refl (omega arith)
+call_tells k (ReadHandedOut n) c h =
+    tells_nothing (read_handed_out n c) no_change refl refl (omega arith)
+call_tells k (PlaceHandedOut n) c h =
     let span = spans (size (handed_out n c)) in
-    tells-nothing (place_handed_out n c) no_change refl refl
-    (or-27-below28 (ltb n (length c.chance.bodies)) span (omega arith))
-call-tells k TakeFigures c h = tells-nothing (tells (figures c)) no_change refl refl (omega arith)
+    tells_nothing (place_handed_out n c) no_change refl refl
+    (or_27_below28 (ltb n (length c.chance.bodies)) span (omega arith))
+call_tells k TakeFigures c h = tells_nothing (tells (figures c)) no_change refl refl (omega arith)
 
 -- ---- a list of events
 
@@ -165,11 +165,11 @@ record EventTells (e : Event) (a : Account) : Type 0 where
   offers : (next e a).offers ≡ a.offers + length (offered_by a.offers e)
   not28 : answer_to e a ≢ number 28
 
-event-tells : (e : Event) (a : Account) → InOrder a → EventTells e a
+event_tells : (e : Event) (a : Account) → InOrder a → EventTells e a
 unfolding next answer_to
-event-tells (call x) a h =
+event_tells (call x) a h =
     let d = change a.offers x a.cache in
-    let t = call-tells a.offers x a.cache (limited h) in
+    let t = call_tells a.offers x a.cache (limited h) in
     record {
       accepted = ap (λ (bs : List Body). a.accepted ++ bs) t.accepted;
       refusals = refusals_append a.drops d.drops
@@ -177,9 +177,9 @@ event-tells (call x) a h =
       offers = refl;
       not28 = t.not28;
     }
-event-tells (refused_opening o) a h =
-    let small = config-number-small o.limits o.bytes o.words in
-    let t = tells-nothing (number (opening_number o)) no_change refl refl (omega arith) in
+event_tells (refused_opening o) a h =
+    let small = config_number_small o.limits o.bytes o.words in
+    let t = tells_nothing (number (opening_number o)) no_change refl refl (omega arith) in
     record {
       accepted = sym (append-nil a.accepted) ∙ ap (λ (bs : List Body). a.accepted ++ bs) t.accepted;
       refusals = sym (append-nil (refusals_in a.drops))
@@ -204,7 +204,7 @@ all_told [] a h = record {
   never28 = λ m. Memᴰ.not-nil m;
 }
 all_told (e ∷ es) a h =
-    let t = event-tells e a h in
+    let t = event_tells e a h in
     let rest = all_told es (next e a) (next_in_order e a h) in
     record {
       accepted = rest.accepted ∙ rw (t.accepted, t.offers, append_assoc);
@@ -236,10 +236,10 @@ once_more q n k bs rest (inr one) h =
     here : n ≡ k → times_in n rest ≡ 0 → (1 + times_in n rest ≤ 1) × (n < k → 1 + times_in n rest ≡ 0)
     here e z = (omega arith, λ l. omega arith)
 
-pub offered-once : (p : Answer → Bool) (n k : ℕ) (es : List Event) (rs : List Answer)
+pub offered_once : (p : Answer → Bool) (n k : ℕ) (es : List Event) (rs : List Answer)
     → OnceFrom n k (offers_answered p k es rs)
-offered-once p n k [] rs = (omega arith, λ _. refl)
-offered-once p n k (e ∷ es) [] = (omega arith, λ _. refl)
-offered-once p n k (e ∷ es) (r ∷ rs) =
+offered_once p n k [] rs = (omega arith, λ _. refl)
+offered_once p n k (e ∷ es) [] = (omega arith, λ _. refl)
+offered_once p n k (e ∷ es) (r ∷ rs) =
     let k' = k + length (offered_by k e) in
-    once_more (p r) n k (offered_by k e) (offers_answered p k' es rs) (one_offer k e) (offered-once p n k' es rs)
+    once_more (p r) n k (offered_by k e) (offers_answered p k' es rs) (one_offer k e) (offered_once p n k' es rs)

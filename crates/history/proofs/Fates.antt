@@ -19,7 +19,7 @@ use Rattle.history.specs.Claim.{HandedOut, Dropped, Cleared, Fates}
 use Rattle.history.proofs.Drops.{length_drops}
 use Rattle.history.proofs.Balance.{Balanced}
 use Rattle.history.proofs.Order.{InOrder}
-use Rattle.history.proofs.Answers.{offered-once}
+use Rattle.history.proofs.Answers.{offered_once}
 use Rattle.history.proofs.Rearranged.{rearranged}
 
 -- ---- one fate
@@ -98,7 +98,7 @@ all_fates es answers a b h accepted refusals =
     let dropped = dropped_bodies a in
     record {
       accepted = accepted;
-      once = λ n. rw accepted (offered-once is_done n 0 es answers).0;
+      once = λ n. rw accepted (offered_once is_done n 0 es answers).0;
       together = rearranged (held ++ (handed ++ (dropped ++ a.cleared))) a.accepted (sum_together a b);
       one_fate = λ n e. one_fate_lem n a (times_in n held) (times_in n handed) (times_in n dropped) (times_in n a.cleared)
           (refl, refl, refl, refl) (omega (arith, sum_fates a b (λ x. cond (eqb n x.number) 1 0)));

@@ -29,7 +29,7 @@ use Rattle.history.specs.Claim.{unnumbered, OwnLengths, Promised, EventPromised,
 use Rattle.history.specs.Claim.{Accounted, Fates, EveryRunAccounted}
 use Rattle.history.proofs.Balance.{Balanced, begun_balanced, all_balanced}
 use Rattle.history.proofs.Order.{InOrder, begun_in_order, all_in_order}
-use Rattle.history.proofs.Answers.{below28, config-number-small, Told, all_told}
+use Rattle.history.proofs.Answers.{below28, config_number_small, Told, all_told}
 use Rattle.history.proofs.Fates.{all_fates}
 
 abbrev LegalIn : Opening → Cache → Type 0
@@ -108,7 +108,7 @@ module _ (State : Type 0) (WellFormed : State → Type 0) (read : State → Cach
   refusals_not28 : (os : List Opening) → Member (number 28) (map (λ o. number (opening_number o)) os) → ⊥
   refusals_not28 [] m = Memᴰ.not-nil m
   refusals_not28 (o ∷ os) m =
-      let small = config-number-small o.limits o.bytes o.words in
+      let small = config_number_small o.limits o.bytes o.words in
       let other = below28 (number (opening_number o)) (omega arith) in
       ⊎_elim (λ e. other (sym e)) (refusals_not28 os) (Memᴰ.cases_cons m)
 

@@ -42,7 +42,7 @@ use Rattle.pending_handed_out.specs.HandedOut.{shown, place_number, place_answer
 use Rattle.pending_handed_out.specs.HandedOut.{ReadsHandedOut}
 use Rattle.pending_flows.proofs.Templates.{no_bodies}
 use Rattle.pending_flows.proofs.Questions.{none_unlabelled}
-use Rattle.pending_queries.proofs.Answers.{answered, seen-damaged, seen-legal}
+use Rattle.pending_queries.proofs.Answers.{answered, seen_damaged, seen_legal}
 
 module _ (bytes : List ℕ) where
   -- the n-th body of a label, by the n-th entry
@@ -144,7 +144,7 @@ module _ (w b : List ℕ) (k : ℕ) (r : EntryFound) (ok : well_formed w (length
 module _ (w b : List ℕ) (k : ℕ) {x : TableSeen} {s : LabelSeen} {r : EntryFound}
     (tested : x ≡ examined w (length b) (Sought.HandedOut k)) (seen : x ≡ Seen.WellFormed s) (is : r ≡ s.found) where
   ok : well_formed w (length b) ≡ true
-  ok = seen-legal w b (Sought.HandedOut k) tested seen
+  ok = seen_legal w b (Sought.HandedOut k) tested seen
 
   found : Finds w b k r
   unfolding seen_by watch_for
@@ -205,7 +205,7 @@ module _ (w b : List ℕ) (k : ℕ) {x : TableSeen} {s : LabelSeen} {r : EntryFo
 pub place_damaged : (w b : List ℕ) (k : ℕ) {x : TableSeen} → x ≡ examined w (length b) (Sought.HandedOut k) →
     x ≡ Seen.Damaged → PlacesHandedOut (areas_of w b) k (Place.Refused Refusal.Damaged) (areas_of w b)
 place_damaged w b k tested e = record {
-  answer = seen-damaged w b (Sought.HandedOut k) tested (place_handed_out k) e;
+  answer = seen_damaged w b (Sought.HandedOut k) tested (place_handed_out k) e;
   within = λ p g. other p g;
   inside = λ p g. other p g;
   holds = λ p c g v. other p g;

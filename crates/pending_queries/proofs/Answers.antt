@@ -43,26 +43,26 @@ asks e = record { answer = e; unchanged = refl }
 
 -- The areas were examined: x is what was answered.
 module _ (w b : List ℕ) (sought : Sought) {x : TableSeen} (tested : x ≡ examined w (length b) sought) where
-  pub seen-damaged : (question : Cache → Answer) → x ≡ Seen.Damaged →
+  pub seen_damaged : (question : Cache → Answer) → x ≡ Seen.Damaged →
       number 28 ≡ asked question (view (areas_of w b))
-  seen-damaged question e = damaged question w b (is_damaged (well_formed w (length b)) _ tested e) refl
+  seen_damaged question e = damaged question w b (is_damaged (well_formed w (length b)) _ tested e) refl
 
-  pub seen-legal : {s : LabelSeen} → x ≡ Seen.WellFormed s → well_formed w (length b) ≡ true
-  seen-legal e = sym (is_legal (well_formed w (length b)) _ tested e)
+  pub seen_legal : {s : LabelSeen} → x ≡ Seen.WellFormed s → well_formed w (length b) ≡ true
+  seen_legal e = sym (is_legal (well_formed w (length b)) _ tested e)
 
-  pub header-seen : {s : LabelSeen} → x ≡ Seen.WellFormed s → header_words ≤ length w
-  header-seen e = header_within w (length b) (seen-legal e)
+  pub header_seen : {s : LabelSeen} → x ≡ Seen.WellFormed s → header_words ≤ length w
+  header_seen e = header_within w (length b) (seen_legal e)
 
 -- the test of `would_accept`, by the limits and the unexpired bodies
 module _ (l : PendingFlowsConfig) (len live : ℕ) where
-  pub over-entry-size : l.max_entry_size_bytes < len → false ≡ accepts_with l len live
+  pub over_entry_size : l.max_entry_size_bytes < len → false ≡ accepts_with l len live
   unfolding accepts_with
-  over-entry-size h = rw (lt-leb len l.max_entry_size_bytes h)
+  over_entry_size h = rw (lt-leb len l.max_entry_size_bytes h)
 
   module _ (fits-entry : len ≤ l.max_entry_size_bytes) where
-    pub over-total : l.max_total_bytes < len → false ≡ accepts_with l len live
+    pub over_total : l.max_total_bytes < len → false ≡ accepts_with l len live
     unfolding accepts_with
-    over-total h = rw (le-leb len l.max_entry_size_bytes fits-entry, lt-leb len l.max_total_bytes h)
+    over_total h = rw (le-leb len l.max_entry_size_bytes fits-entry, lt-leb len l.max_total_bytes h)
 
     pub by_room : len ≤ l.max_total_bytes → ltb live l.max_entries_per_template ≡ accepts_with l len live
     unfolding accepts_with
@@ -74,14 +74,14 @@ module _ (w b : List ℕ) (id len clock : ℕ) {x : TableSeen} {s : LabelSeen} {
     (tested : x ≡ examined w (length b) (Sought.Live id clock)) (seen : x ≡ Seen.WellFormed s) (limits : l ≡ limits_of w)
     (is : v ≡ accepts_with l len s.live) where
   ok : well_formed w (length b) ≡ true
-  ok = seen-legal w b (Sought.Live id clock) tested seen
+  ok = seen_legal w b (Sought.Live id clock) tested seen
 
   unused : tally 1024 (table_of w).entries ≡ 0
   unused = none_unlabelled w (length b) ok
 
-  live-right : s.live ≡ length (keep (λ y. not (expired (limits_of w).ttl clock y))
+  live_right : s.live ≡ length (keep (λ y. not (expired (limits_of w).ttl clock y))
       (bodies_of id (cache_of (table_of w) b).held))
-  live-right =
+  live_right =
       live_counted w (length b) id clock tested seen unused
       ∙ live_bodies_lem b (limits_of w).ttl clock (label_or_none (label_of id (table_of w).held)) (table_of w).entries
       ∙ rw (found_bodies b id (table_of w).entries (table_of w).held unused)
@@ -89,11 +89,11 @@ module _ (w b : List ℕ) (id len clock : ℕ) {x : TableSeen} {s : LabelSeen} {
   told : says v ≡ asked (λ c. says (would_accept id len clock c)) (view (areas_of w b))
   unfolding accepts_with would_accept
   told =
-      ap says (is ∙ rw (limits, live-right))
+      ap says (is ∙ rw (limits, live_right))
       ∙ answered (λ c. says (would_accept id len clock c)) w b refl ok
 
-  pub told-yes : v ≡ true → says true ≡ asked (λ c. says (would_accept id len clock c)) (view (areas_of w b))
-  told-yes h = ap says (sym h) ∙ told
+  pub told_yes : v ≡ true → says true ≡ asked (λ c. says (would_accept id len clock c)) (view (areas_of w b))
+  told_yes h = ap says (sym h) ∙ told
 
-  pub told-no : v ≡ false → says false ≡ asked (λ c. says (would_accept id len clock c)) (view (areas_of w b))
-  told-no h = ap says (sym h) ∙ told
+  pub told_no : v ≡ false → says false ≡ asked (λ c. says (would_accept id len clock c)) (view (areas_of w b))
+  told_no h = ap says (sym h) ∙ told

@@ -23,12 +23,12 @@ use Rattle.pending_resize.specs.declared.resizing.ResizeAnswer.TheVariants as Re
 use Rattle.pending_resize.specs.Promises.{Resizes, ResizesTo}
 
 -- a refusal has a number
-refusal-some : (n : ConfigRefusal) → refusal_number n ≡ 0 → ⊥
-refusal-some NoTemplates e = omega arith
-refusal-some NoEntries e = omega arith
-refusal-some EntrySize e = omega arith
-refusal-some TotalBytes e = omega arith
-refusal-some Areas e = omega arith
+refusal_some : (n : ConfigRefusal) → refusal_number n ≡ 0 → ⊥
+refusal_some NoTemplates e = omega arith
+refusal_some NoEntries e = omega arith
+refusal_some EntrySize e = omega arith
+refusal_some TotalBytes e = omega arith
+refusal_some Areas e = omega arith
 
 -- bodies dropped are no refusal
 is_refused : ResizeAnswer → ℕ
@@ -36,13 +36,13 @@ is_refused (Resize.Dropped n) = 0
 is_refused (Resize.Refused n) = 1
 is_refused Resize.Damaged = 0
 
-dropped-refused : {k : ℕ} {n : ConfigRefusal} → Resize.Dropped k ≡ Resize.Refused n → ⊥
+dropped_refused : {k : ℕ} {n : ConfigRefusal} → Resize.Dropped k ≡ Resize.Refused n → ⊥
 unfolding is_refused
-dropped-refused e = let z : ◌≡◌ {A = ℕ} 0 1 = ap is_refused e in omega arith
+dropped_refused e = let z : ◌≡◌ {A = ℕ} 0 1 = ap is_refused e in omega arith
 
 module _ (l : PendingFlowsConfig) (w b : List ℕ) {v : Bool} (tested : v ≡ well_formed w (length b)) where
-  pub resize-damaged : not v ≡ true → Resizes l (areas_of w b) Resize.Damaged (areas_of w b)
-  resize-damaged h = record {
+  pub resize_damaged : not v ≡ true → Resizes l (areas_of w b) Resize.Damaged (areas_of w b)
+  resize_damaged h = record {
     performs = damaged_performs w b tested (resized l (length b) (length w)) (not-true v h);
     refused = λ n e. refl;
     frame = untouched_all _ _ _;
@@ -53,15 +53,15 @@ module _ (l : PendingFlowsConfig) (w b : List ℕ) {v : Bool} (tested : v ≡ we
       cached : view (areas_of w b) ≡ some (cache_of (table_of w) b)
       cached = view_some w b tested (not-false v h)
 
-      pub resize-refused : {n : ConfigRefusal} → a ≡ Refused n →
+      pub resize_refused : {n : ConfigRefusal} → a ≡ Refused n →
           Resizes l (areas_of w b) (Resize.Refused n) (areas_of w b)
       unfolding resized
-      resize-refused {n} is =
+      resize_refused {n} is =
           let number_is : config_number l (length b) (length w) ≡ refusal_number n = sym answered ∙ ap answer_number is in
           record {
             performs = record {
-              answer = rw (cached, number_is, ne_eqb (refusal_number n) 0 (refusal-some n));
-              holds = rw (cached, number_is, ne_eqb (refusal_number n) 0 (refusal-some n));
+              answer = rw (cached, number_is, ne_eqb (refusal_number n) 0 (refusal_some n));
+              holds = rw (cached, number_is, ne_eqb (refusal_number n) 0 (refusal_some n));
               damaged = λ _. refl;
             };
             refused = λ m e. refl;
@@ -72,14 +72,14 @@ module _ (l : PendingFlowsConfig) (w b : List ℕ) {v : Bool} (tested : v ≡ we
         accepted : config_number l (length b) (length w) ≡ 0
         accepted = sym answered ∙ ap answer_number is
 
-        pub resize-legal : (well_formed w (length b) ≡ true) × (config_number l (length b) (length w) ≡ 0)
-        resize-legal = (sym tested ∙ not-false v h, accepted)
+        pub resize_legal : (well_formed w (length b) ≡ true) × (config_number l (length b) (length w) ≡ 0)
+        resize_legal = (sym tested ∙ not-false v h, accepted)
 
-        pub resize-done : {w' b' : List ℕ} {k : ℕ} →
+        pub resize_done : {w' b' : List ℕ} {k : ℕ} →
             ResizesTo l (cache_of (table_of w) b) (areas_of w b) k (areas_of w' b') →
             Resizes l (areas_of w b) (Resize.Dropped k) (areas_of w' b')
         unfolding resized
-        resize-done s =
+        resize_done s =
             let zero = eq-eqb (config_number l (length b) (length w)) 0 accepted in
             record {
               performs = record {
@@ -87,6 +87,6 @@ module _ (l : PendingFlowsConfig) (w b : List ℕ) {v : Bool} (tested : v ≡ we
                 holds = rw (cached, zero) s.holds;
                 damaged = λ n. absurd (some_none (sym cached ∙ n));
               };
-              refused = λ n e. absurd (dropped-refused e);
+              refused = λ n e. absurd (dropped_refused e);
               frame = s.frame;
             }

@@ -1,5 +1,5 @@
 use borrow.Author.Rules.{rules}
-use Rattle.budget_words.proofs.Answers.{excess-told}
+use Rattle.budget_words.proofs.Answers.{excess_told}
 use Rattle.budget_words.proofs.export_exceeded.Statement.{statement}
 use Rattle.budget_words.proofs.export_exceeded.Tie as tie
 
@@ -16,7 +16,7 @@ returns : tie.Need-returns
 returns c = search rules
 
 returns-2 : tie.Need-returns-2
-returns-2 c = search (excess-told, rules)
+returns-2 c = search (excess_told, rules)
 
 pub export-exceeded-spec : {M : Type 1} → statement M
 export-exceeded-spec =

@@ -1,5 +1,5 @@
 use borrow.Author.Rules.{rules}
-use Rattle.budget_words.proofs.Answers.{values-refused, payload-refused}
+use Rattle.budget_words.proofs.Answers.{values_refused, payload_refused}
 use Rattle.budget_words.proofs.export_reserve.Statement.{statement}
 use Rattle.budget_words.proofs.export_reserve.Tie as tie
 
@@ -22,10 +22,10 @@ returns : tie.Need-returns
 returns c = search rules
 
 returns-2 : tie.Need-returns-2
-returns-2 c = search (values-refused, rules)
+returns-2 c = search (values_refused, rules)
 
 returns-3 : tie.Need-returns-3
-returns-3 c = search (payload-refused, rules)
+returns-3 c = search (payload_refused, rules)
 
 pub export-reserve-spec : {M : Type 1} → statement M
 export-reserve-spec =

@@ -26,30 +26,31 @@ pub take_label-removed-requires : goal.take_label-removed-requires
 take_label-removed-requires c = record { bytes_value = (c.requires.0, c.limits_at-limits.ensures); figures_value = (c.figures_at-figures.ensures, c.records_at-from.ensures); label_value = c.label_for-label.ensures; live_value = bodies_told _ _ _ _ c.live_figures-live.ensures }
 
 pub hand_out-chance-requires : goal.hand_out-chance-requires
-hand_out-chance-requires c = hand_ready _ c.args.bytes.now _ _ c.requires.0
+hand_out-chance-requires c = let ready = hand_ready _ c.args.bytes.now _ _ c.requires.0
     c.limits_at-limits.ensures c.figures_at-figures.ensures c.records_at-from.ensures
-    c.label_for-label.ensures c.take_label-removed.ensures
-
-settled : (c : tie.After-hand-out) →
-    Settling (figured (labelled (live c))).figures-at.result.entries
-    (handed (labelled (live c))).handed-count.result (taken c).take-label.result.entries
-    (taken c).take-label.result.bytes (live c).live-figures.result.bytes c.hand-out.new.0
-settled c =
-    let h : tie.After-label-for = labelled (live c) in
-    settling _ (start h).args.bytes.now _ _ (start h).pre.0 (limited h).limits-at.ensures
-    (figured h).figures-at.ensures (placed h).records-at.ensures h.label-for.ensures
-    (taken c).take-label.ensures (live c).live-figures.ensures (start h).pre.1 c.hand-out.ensures
-    (c.hand-out.auto.0 ∙ (taken c).take-label.auto.0) (handed h).handed-count.ensures
+    c.label_for-label.ensures c.take_label-removed.ensures in
+    record { records_in_bounds = ready.0; records_value = ready.1 }
 
 pub dropped_after-requires : goal.dropped_after-requires
-dropped_after-requires c = let done = settled c.before in
+dropped_after-requires c = let done = settling _ c.args.bytes.now _ _ c.requires.0 c.limits_at-limits.ensures c.figures_at-figures.ensures
+    c.records_at-from.ensures c.label_for-label.ensures c.take_label-removed.ensures c.live_figures-live.ensures
+    c.requires.1 c.hand_out-chance.ensures (c.hand_out-chance.auto.words ∙ c.take_label-removed.auto.words)
+    c.handed_count-handed.ensures in
     (done.less_handed, done.less_left)
 
 pub total_after-requires : goal.total_after-requires
-total_after-requires c = (settled c.before).less_live
+total_after-requires c = let done = settling _ c.args.bytes.now _ _ c.requires.0 c.limits_at-limits.ensures c.figures_at-figures.ensures
+    c.records_at-from.ensures c.label_for-label.ensures c.take_label-removed.ensures c.live_figures-live.ensures
+    c.requires.1 c.hand_out-chance.ensures (c.hand_out-chance.auto.words ∙ c.take_label-removed.auto.words)
+    c.handed_count-handed.ensures in
+    done.less_live
 
 pub write_header-requires : goal.write_header-requires
-write_header-requires c = (settled c.before).header_fits
+write_header-requires c = let done = settling _ c.args.bytes.now _ _ c.requires.0 c.limits_at-limits.ensures c.figures_at-figures.ensures
+    c.records_at-from.ensures c.label_for-label.ensures c.take_label-removed.ensures c.live_figures-live.ensures
+    c.requires.1 c.hand_out-chance.ensures (c.hand_out-chance.auto.words ∙ c.take_label-removed.auto.words)
+    c.handed_count-handed.ensures in
+    done.header_fits
 
 pub returns : goal.returns
 returns c = drain_done _ _ _ _ c.requires.0 c.limits_at-limits.ensures c.figures_at-figures.ensures

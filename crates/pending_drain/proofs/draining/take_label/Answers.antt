@@ -20,38 +20,36 @@ returns-then-nothing_goes c = search (none_taken, rules)
 pub returns-then-figures-eq0 : goal.returns-then-figures-eq0
 returns-then-figures-eq0 c = search (expired_taken, rules)
 
--- the records lie within the words
-inside : (s : tie.Start) → s.args.from + record_words * (s.args.figures.templates + s.args.figures.chance)
-    ≤ length s.args.words.now
-inside s =
-    records_inside _ (length s.args.bytes.now) s.requires.0.0 _ s.requires.1.0.0 _ s.requires.0.1 _
-    s.requires.1.0.1
-
 pub overflow_mul-handed : goal.overflow_mul-handed
-overflow_mul-handed c = search (inside c, rules)
+overflow_mul-handed c = let inside = records_inside _ (length c.args.bytes.now) c.requires.bytes_value.0 _ c.requires.figures_value.0 _
+    c.requires.bytes_value.1 _ c.requires.figures_value.1 in
+    search (inside, rules)
 
 pub overflow_add-handed : goal.overflow_add-handed
-overflow_add-handed c = search (inside c, rules)
+overflow_add-handed c = let inside = records_inside _ (length c.args.bytes.now) c.requires.bytes_value.0 _ c.requires.figures_value.0 _
+    c.requires.bytes_value.1 _ c.requires.figures_value.1 in
+    search (inside, rules)
 
 pub skip_records-requires : goal.skip_records-requires
-skip_records-requires c = search (inside c, rules)
+skip_records-requires c = let inside = records_inside _ (length c.args.bytes.now) c.requires.bytes_value.0 _ c.requires.figures_value.0 _
+    c.requires.bytes_value.1 _ c.requires.figures_value.1 in
+    search (inside, rules)
 
 pub remove_expired-requires : goal.remove_expired-requires
 remove_expired-requires c = let skips = c.skip_records.ensures in
     let figures = c.requires.figures_value.0 in
     let from = c.requires.figures_value.1 in
-    let labelled = c.requires.label_value in (
-      c.requires.bytes_value,
-      (
-        (
-          figures,
-          skips_whole _ c.args.bytes.now _ c.requires.bytes_value.0 c.requires.bytes_value.1 figures from labelled
-              c.args.clock skips,
-        ),
-        live_stay _ c.args.bytes.now _ c.requires.bytes_value.0 c.requires.bytes_value.1 figures from labelled _ skips _
-            c.requires.live_value,
-      ),
-    )
+    let labelled = c.requires.label_value in
+    record {
+      bytes_value = c.requires.bytes_value;
+      figures_value = (
+        figures,
+        skips_whole _ c.args.bytes.now _ c.requires.bytes_value.0 c.requires.bytes_value.1 figures from labelled
+            c.args.clock skips,
+      );
+      live_value = live_stay _ c.args.bytes.now _ c.requires.bytes_value.0 c.requires.bytes_value.1 figures from labelled
+          _ skips _ c.requires.live_value;
+    }
 
 pub returns : goal.returns
 returns c = search (some_taken, rules)

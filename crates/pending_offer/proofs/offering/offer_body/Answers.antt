@@ -13,25 +13,21 @@ pub plan_offer-plan-requires : goal.plan_offer-plan-requires
 plan_offer-plan-requires c = search (size_within, rules)
 
 pub turn_down-requires : goal.turn_down-requires
-turn_down-requires c = let pre = c.requires in (
-  (pre.0.0, c.limits_at-limits.ensures),
-  (
-    (c.figures_at-figures.ensures, pre.1.0),
-    (c.plan_offer-plan.ensures, c.if-plan.true),
-  ),
-)
+turn_down-requires c = record {
+  bytes_value = (c.requires.bytes_value.0, c.limits_at-limits.ensures);
+  figures_value = (c.figures_at-figures.ensures, c.requires.body_len_bound);
+  plans = (c.plan_offer-plan.ensures, c.if-plan.true);
+}
 
 pub returns-then-plan : goal.returns-then-plan
 returns-then-plan c = search (full_offer, rules)
 
 pub accept-requires : goal.accept-requires
-accept-requires c = let pre = c.requires in (
-  (pre.0.0, c.limits_at-limits.ensures),
-  (
-    (c.figures_at-figures.ensures, pre.1.0),
-    (c.plan_offer-plan.ensures, (c.if-plan.false, pre.0.1)),
-  ),
-)
+accept-requires c = record {
+  bytes_value = (c.requires.bytes_value.0, c.limits_at-limits.ensures);
+  figures_value = (c.figures_at-figures.ensures, c.requires.body_len_bound);
+  plans = (c.plan_offer-plan.ensures, (c.if-plan.false, c.requires.bytes_value.1));
+}
 
 pub returns : goal.returns
 returns c = search (cached_offer, rules)

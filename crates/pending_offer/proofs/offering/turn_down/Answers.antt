@@ -2,43 +2,67 @@ use Rattle.pending_offer.proofs.Left.{none_handed}
 use Rattle.pending_offer.proofs.Refused.{Refusing, refused_settles, refused_fewer, drops_fit, refused_does}
 use Rattle.pending_offer.proofs.offering.turn_down.Goals as goal
 
-known : (c : tie.After-remove-planned) →
-    let s = begins (held c) in
-    Refusing s.args.words.now s.args.bytes.now s.args.limits s.args.id s.args.body.now
-    s.args.clock s.args.plan c.remove-planned.new.0 c.remove-planned.result
-known c =
-    let pre = (begins (held c)).requires in
+pub remove_planned-left-requires : goal.remove_planned-left-requires
+remove_planned-left-requires c = let plans = c.requires.plans.0 in
     record {
-      ok = pre.0.0;
-      limits = pre.0.1;
-      small = pre.1.0.1;
-      plans = pre.1.1.0;
-      full = pre.1.1.1;
-      removed = c.remove-planned.ensures;
-      long = c.remove-planned.auto.0;
+      bytes_value = c.requires.bytes_value;
+      figures_value = (c.requires.figures_value.0, plans.few);
+      keeps_all = (
+        plans.keeps_all,
+        none_handed _ _ c.requires.bytes_value.0 _ _ _ _ plans c.requires.figures_value.0,
+      );
+      none_expired = plans.none_expired;
     }
 
-pub remove_planned-left-requires : goal.remove_planned-left-requires
-remove_planned-left-requires c = let plans = c.requires.plans.0 in (
-  c.requires.bytes_value,
-  (
-    (c.requires.figures_value.0, plans.few),
-    (
-      (plans.keeps_all, none_handed _ _ c.requires.bytes_value.0 _ _ _ _ plans c.requires.figures_value.0),
-      plans.none_expired,
-    ),
-  ),
-)
-
 pub overflow_sub-drops : goal.overflow_sub-drops
-overflow_sub-drops c = refused_fewer (known c) c.held_bodies-held.ensures
+overflow_sub-drops c = let known : Refusing c.args.words.now c.args.bytes.now c.args.limits c.args.id c.args.body.now c.args.clock c.args.plan
+    c.remove_planned-left.new.words c.remove_planned-left.result = record {
+      ok = c.requires.bytes_value.0;
+      limits = c.requires.bytes_value.1;
+      small = c.requires.figures_value.1;
+      plans = c.requires.plans.0;
+      full = c.requires.plans.1;
+      removed = c.remove_planned-left.ensures;
+      long = c.remove_planned-left.auto.words;
+    } in
+    refused_fewer known c.held_bodies-held.ensures
 
 pub overflow_add-drops : goal.overflow_add-drops
-overflow_add-drops c = record { fits = drops_fit (known c) c.held_bodies-held.ensures }
+overflow_add-drops c = let known : Refusing c.args.words.now c.args.bytes.now c.args.limits c.args.id c.args.body.now c.args.clock c.args.plan
+    c.remove_planned-left.new.words c.remove_planned-left.result = record {
+      ok = c.requires.bytes_value.0;
+      limits = c.requires.bytes_value.1;
+      small = c.requires.figures_value.1;
+      plans = c.requires.plans.0;
+      full = c.requires.plans.1;
+      removed = c.remove_planned-left.ensures;
+      long = c.remove_planned-left.auto.words;
+    } in
+    record { fits = drops_fit known c.held_bodies-held.ensures }
 
 pub settle-requires : goal.settle-requires
-settle-requires c = refused_settles (known c)
+settle-requires c = let known : Refusing c.args.words.now c.args.bytes.now c.args.limits c.args.id c.args.body.now c.args.clock c.args.plan
+    c.remove_planned-left.new.words c.remove_planned-left.result = record {
+      ok = c.requires.bytes_value.0;
+      limits = c.requires.bytes_value.1;
+      small = c.requires.figures_value.1;
+      plans = c.requires.plans.0;
+      full = c.requires.plans.1;
+      removed = c.remove_planned-left.ensures;
+      long = c.remove_planned-left.auto.words;
+    } in
+    refused_settles known
 
 pub returns : goal.returns
-returns c = refused_does (known c) c.held_bodies-held.ensures c.requires.figures_value.0
+returns c = let known : Refusing c.args.words.now c.args.bytes.now c.args.limits c.args.id c.args.body.now c.args.clock c.args.plan
+    c.remove_planned-left.new.words c.remove_planned-left.result = record {
+      ok = c.requires.bytes_value.0;
+      limits = c.requires.bytes_value.1;
+      small = c.requires.figures_value.1;
+      plans = c.requires.plans.0;
+      full = c.requires.plans.1;
+      removed = c.remove_planned-left.ensures;
+      long = c.remove_planned-left.auto.words;
+    } in
+    refused_does known c.held_bodies-held.ensures c.requires.figures_value.0
     c.settle.ensures

@@ -4,10 +4,13 @@ use Rattle.pending_resize.proofs.Left.{shrinks}
 use Rattle.pending_resize.proofs.shrinking.shrink.Goals as goal
 
 pub cut-few-requires : goal.cut-few-requires
-cut-few-requires c = cut_fits _ _ c.args.bytes.now _ _ c.requires.bytes_value c.requires.from_value
+cut-few-requires c = let fits = cut_fits _ _ c.args.bytes.now _ _ c.requires.bytes_value c.requires.from_value in
+    record { entries_bound = fits.0; handed_bound = fits.1 }
 
 pub fit_total-left-requires : goal.fit_total-left-requires
-fit_total-left-requires c = total_fits _ _ c.args.bytes.now _ _ c.requires.bytes_value c.requires.from_value c.cut-few.ensures
+fit_total-left-requires c = let fits = total_fits _ _ c.args.bytes.now _ _ c.requires.bytes_value c.requires.from_value
+    c.cut-few.ensures in
+    record { entries_bound = fits.0; records_bound = fits.1 }
 
 pub fit_places-requires : goal.fit_places-requires
 fit_places-requires c = places_fit _ _ c.args.bytes.now _ _ c.requires.bytes_value c.requires.from_value c.cut-few.ensures
@@ -19,17 +22,17 @@ records_at-to-requires c = bodies_few _ _ c.args.bytes.now _ _ c.requires.bytes_
 pub overflow_mul-left : goal.overflow_mul-left
 overflow_mul-left c = let fits =
     records_fit _ _ _ _ _ c.requires.bytes_value c.requires.from_value c.cut-few.ensures c.fit_total-left.ensures
-    c.fit_places.ensures c.fit_places.auto.words c.fit_places.kept.1.0 in
+    c.fit_places.ensures c.fit_places.auto.words c.fit_places.auto.bytes in
     omega (arith, fits)
 
 pub move_words-requires : goal.move_words-requires
 move_words-requires c = let fits =
     move_fits _ _ _ _ _ c.requires.bytes_value c.requires.from_value c.cut-few.ensures c.fit_total-left.ensures
-    c.fit_places.ensures c.fit_places.auto.words c.fit_places.kept.1.0
+    c.fit_places.ensures c.fit_places.auto.words c.fit_places.auto.bytes
     c.records_at-to.ensures in
     (omega (arith, fits), omega (arith, fits))
 
 pub returns : goal.returns
 returns c = shrinks _ _ _ _ _ c.requires.bytes_value c.requires.from_value c.cut-few.ensures c.fit_total-left.ensures
-    c.fit_places.ensures c.fit_places.auto.words c.fit_places.kept.1.0
-    c.records_at-to.ensures c.move_words.ensures c.move_words.auto.words
+    c.fit_places.ensures c.fit_places.auto.words c.fit_places.auto.bytes
+    c.records_at-to.ensures c.move_words.ensures c.move_words.auto.area
