@@ -1,6 +1,8 @@
 // A budget as seven words, and a call's answer as a number and words: what functions over plain words read and write.
 // The words of a budget: the limits of the field values and of the payload bytes, both counts in use, and the recorded
 // excess (0 none, 1 of the values, 2 of the payload) with its configured figure and its attempted sum.
+#![tactic(auto)]
+
 ghost use Rattle.std.specs.Prelude.{◌≡◌, []};
 ghost use Rattle.output_budget.specs.Budget.{limit_of, values_of_excess, told_of_exceeded, told_of_reserve, told_of_rollback};
 ghost use Rattle.output_limits.specs.Limits.{told_of_limits};

@@ -1,5 +1,7 @@
 // The use of a budget, which crosses as seven words (budget_words). Words 2 and 3 are the use: a checkpoint is a copy
 // of them.
+#![tactic(auto)]
+
 ghost use Rattle.export_budget.specs.Budget.{ReservesIn, RollsBackIn, TellsRemaining, TellsExceeded, TakesIn};
 
 use budget_words::{export_exceeded, export_reserve, read_budget, rollback_number, write_budget};

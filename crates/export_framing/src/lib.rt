@@ -1,4 +1,6 @@
 // The preflight, one function for each reading.
+#![tactic(auto)]
+
 ghost use Rattle.wire.specs.declared.Reading.TheVariants.{V9Fixed, IpfixFixed, IpfixVariable};
 ghost use Rattle.output_preflight.specs.Preflight.{answer_of};
 ghost use Rattle.export_framing.specs.Framing.{Exported, Preflights};

@@ -1,4 +1,6 @@
 // The limits of a message, and a budget with two of them, which crosses as seven words (budget_words).
+#![tactic(auto)]
+
 ghost use Rattle.export_limits.specs.Limits.{TestsLimits, Opens, Resets};
 
 use budget_words::{export_limits, read_budget, write_budget};

@@ -1,4 +1,6 @@
 // Queued bodies against a budget, which crosses as seven words (budget_words).
+#![tactic(auto)]
+
 ghost use Rattle.export_pending.specs.Pending.{FitsWhole, FitsRemaining, MaterializesIn};
 
 use budget_words::{

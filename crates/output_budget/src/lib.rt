@@ -1,18 +1,20 @@
 // The decoded-output budget of one message: two counts, each with its limit, and the first excess.
+#![tactic(auto)]
+
 ghost use Rattle.std.specs.Prelude.{◌≡◌, ◌-◌};
 ghost use Rattle.output_budget.specs.Budget.{opened, use_of, remaining_of, with_use, grown, SumsWithin};
 
 use output_preflight::{FieldValues, PayloadBytes};
 
 // Which limit an excess is of.
-#[derive(Drop)]
+#[derive(Clone, Copy)]
 pub enum DecodedOutputLimit {
     FieldValues,
     FieldPayloadBytes,
 }
 
 // A reservation that would have passed a limit: which one, its figure, and the sum that was attempted.
-#[derive(Drop)]
+#[derive(Clone, Copy)]
 pub struct OutputBudgetExceeded {
     pub limit: DecodedOutputLimit,
     pub configured: usize,
@@ -20,14 +22,14 @@ pub struct OutputBudgetExceeded {
 }
 
 // The first excess since the budget was opened or rolled back.
-#[derive(Drop)]
+#[derive(Clone, Copy)]
 pub enum Exceeded {
     None,
     Recorded(OutputBudgetExceeded),
 }
 
 // Both limits, both counts in use, and the first excess. The use may be above a limit.
-#[derive(Drop)]
+#[derive(Clone, Copy)]
 pub struct DecodedOutputBudget {
     pub max_values: FieldValues,
     pub max_payload_bytes: PayloadBytes,
@@ -37,42 +39,42 @@ pub struct DecodedOutputBudget {
 }
 
 // A pair of counts: those in use, a checkpoint of them, or what remains.
-#[derive(Drop)]
+#[derive(Clone, Copy)]
 pub struct OutputCounts {
     pub values: FieldValues,
     pub payload_bytes: PayloadBytes,
 }
 
 // What `reserve` answers: nothing is reserved where a limit would be passed.
-#[derive(Drop)]
+#[derive(Clone, Copy)]
 pub enum ReserveAnswer {
     Reserved,
     Exceeded(OutputBudgetExceeded),
 }
 
 // What `rollback` answers: nothing is changed where a count is above the one in use.
-#[derive(Drop)]
+#[derive(Clone, Copy)]
 pub enum RollbackAnswer {
     RolledBack,
     AboveUse,
 }
 
 // What `take_exceeded` answers, and the budget after it.
-#[derive(Drop)]
+#[derive(Clone, Copy)]
 pub struct TakeOutcome {
     pub answer: Exceeded,
     pub budget: DecodedOutputBudget,
 }
 
 // What `reserve` answers, and the budget after it.
-#[derive(Drop)]
+#[derive(Clone, Copy)]
 pub struct ReserveOutcome {
     pub answer: ReserveAnswer,
     pub budget: DecodedOutputBudget,
 }
 
 // What `rollback` answers, and the budget after it.
-#[derive(Drop)]
+#[derive(Clone, Copy)]
 pub struct RollbackOutcome {
     pub answer: RollbackAnswer,
     pub budget: DecodedOutputBudget,

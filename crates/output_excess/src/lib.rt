@@ -1,4 +1,6 @@
 // The first excess of a budget: whether one is recorded, and taking it.
+#![tactic(auto)]
+
 ghost use Rattle.std.specs.Prelude.{◌≡◌};
 ghost use Rattle.output_budget.specs.Budget.{is_recorded, Takes};
 

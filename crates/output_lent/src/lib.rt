@@ -1,4 +1,6 @@
 // The budget is lent to each call and changed there (document 01): thin functions over those by value.
+#![tactic(auto)]
+
 ghost use Rattle.output_budget.specs.Budget.{Reserves, RollsBack};
 ghost use Rattle.output_pending.specs.Pending.{Materializes};
 

@@ -1,4 +1,6 @@
 // The limits of one message's decoded output.
+#![tactic(auto)]
+
 ghost use Rattle.std.specs.Prelude.{◌≡◌};
 ghost use Rattle.output_limits.specs.Limits.{told_of_limits, limits_told, default_limits};
 ghost use Rattle.output_budget.specs.Budget.{opened};
@@ -16,7 +18,7 @@ pub const DEFAULT_MAX_DECODED_FIELD_VALUES_PER_MESSAGE: usize = 65536;
 pub const DEFAULT_MAX_DECODED_FIELD_PAYLOAD_BYTES_PER_MESSAGE: usize = 4194304;
 
 // The limits of one message: records of a flow set, field values and payload bytes. `new` makes none with a 0.
-#[derive(Drop)]
+#[derive(Clone, Copy)]
 pub struct DecodedOutputLimits {
     pub max_records: usize,
     pub max_field_values: FieldValues,
@@ -24,7 +26,7 @@ pub struct DecodedOutputLimits {
 }
 
 // Which limit is 0.
-#[derive(Drop)]
+#[derive(Clone, Copy)]
 pub enum LimitsRefusal {
     ZeroRecords,
     ZeroFieldValues,
@@ -32,7 +34,7 @@ pub enum LimitsRefusal {
 }
 
 // What the limits call answers.
-#[derive(Drop)]
+#[derive(Clone, Copy)]
 pub enum LimitsAnswer {
     Accepted(DecodedOutputLimits),
     Refused(LimitsRefusal),

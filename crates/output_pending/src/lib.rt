@@ -1,4 +1,6 @@
 // Whether a queued body fits the budget by its preflight, and what decoding it commits.
+#![tactic(auto)]
+
 ghost use Rattle.std.specs.Prelude.{◌≡◌};
 ghost use Rattle.output_budget.specs.Budget.{whole_of};
 ghost use Rattle.output_pending.specs.Pending.{above, agrees};
@@ -8,14 +10,14 @@ use output_budget::{DecodedOutputBudget, OutputCounts};
 use output_preflight::{PendingOutputPreflight, PreflightAnswer};
 
 // What the decoder reports of a body: its cost, and how many bytes it left.
-#[derive(Drop)]
+#[derive(Clone, Copy)]
 pub enum DecoderReport {
     Failed,
     Decoded(PendingOutputPreflight),
 }
 
 // Why a queued body is not decoded, or its decoding not taken.
-#[derive(Drop)]
+#[derive(Clone, Copy)]
 pub enum PendingOutputError {
     // within the whole budget, but above what remains
     TemporarilyDoesNotFit,
@@ -26,14 +28,14 @@ pub enum PendingOutputError {
 }
 
 // What the fit tests answer.
-#[derive(Drop)]
+#[derive(Clone, Copy)]
 pub enum FitAnswer {
     Fits,
     Refused(PendingOutputError),
 }
 
 // What materializing answers.
-#[derive(Drop)]
+#[derive(Clone, Copy)]
 pub enum MaterializeAnswer {
     // how many bytes the body leaves
     Materialized(usize),
@@ -41,7 +43,7 @@ pub enum MaterializeAnswer {
 }
 
 // What materializing answers, and the budget after it.
-#[derive(Drop)]
+#[derive(Clone, Copy)]
 pub struct MaterializeOutcome {
     pub answer: MaterializeAnswer,
     pub budget: DecodedOutputBudget,

@@ -1,4 +1,6 @@
 // The framing of a queued data-set body, and what decoding it would cost, before it is decoded (output_budget.rs).
+#![tactic(auto)]
+
 ghost use Rattle.std.specs.Prelude.{◌≡◌, ◌≤◌, ◌<◌, length};
 ghost use Rattle.wire.specs.Size.{least_size};
 ghost use Rattle.output_scan.specs.Scan.{scan_of};
@@ -9,15 +11,15 @@ use output_scan_variable::scan_variable_body;
 use wire::Reading;
 
 // A count of decoded field values.
-#[derive(Drop)]
+#[derive(Clone, Copy)]
 pub struct FieldValues(pub usize);
 
 // A count of decoded payload bytes, without length prefixes.
-#[derive(Drop)]
+#[derive(Clone, Copy)]
 pub struct PayloadBytes(pub usize);
 
 // What decoding a body costs, in both counts, and how many bytes it leaves.
-#[derive(Drop)]
+#[derive(Clone, Copy)]
 pub struct PendingOutputPreflight {
     pub field_values: FieldValues,
     pub field_payload_bytes: PayloadBytes,
@@ -25,7 +27,7 @@ pub struct PendingOutputPreflight {
 }
 
 // Why a preflight gives no cost.
-#[derive(Drop)]
+#[derive(Clone, Copy)]
 pub enum Refusal {
     // the record limit is 0
     ZeroRecordLimit,
@@ -36,7 +38,7 @@ pub enum Refusal {
 }
 
 // What a preflight finds.
-#[derive(Drop)]
+#[derive(Clone, Copy)]
 pub enum PreflightAnswer {
     Valid(PendingOutputPreflight),
     Refused(Refusal),
@@ -54,7 +56,7 @@ pub fn refusal_number(refusal: Refusal) -> u32
 }
 
 // An answer in numbers: document 01's number, 0 for a cost, and the values, which are 0 in a refusal.
-#[derive(Drop)]
+#[derive(Clone, Copy)]
 pub struct Figures {
     pub number: u64,
     pub values: u64,

@@ -1,4 +1,6 @@
 // Reserving two counts of a budget: each sum against its limit, and the first excess.
+#![tactic(auto)]
+
 ghost use Rattle.std.specs.Prelude.{◌≡◌, ◌+◌, ltb};
 ghost use Rattle.output_budget.specs.Budget.{Reserves, attempted_sum, first_excess, recorded};
 

@@ -1,4 +1,6 @@
 // Rolling the use of a budget back.
+#![tactic(auto)]
+
 ghost use Rattle.output_budget.specs.Budget.{RollsBack};
 
 use output_budget::{DecodedOutputBudget, Exceeded, RollbackAnswer, RollbackOutcome};

@@ -1,4 +1,6 @@
 // The scan of a body in the variable reading, by the template's layout (output_budget.rs).
+#![tactic(auto)]
+
 ghost use Rattle.std.specs.Prelude.{◌≡◌, ◌≤◌, ◌<◌, length};
 ghost use Rattle.wire.specs.declared.Reading.TheVariants.{IpfixVariable};
 ghost use Rattle.wire.specs.Size.{least_size};

@@ -1,4 +1,6 @@
 // Putting back what a drain handed out.
+#![tactic(auto)]
+
 ghost use Rattle.std.specs.Prelude.{◌≡◌, true, ◌+◌, ◌*◌, ◌≤◌, ◌<◌, length};
 ghost use Rattle.config.specs.Limits.{record_words, entry_words};
 ghost use Rattle.table.specs.Layout.{entries_at};

@@ -1,4 +1,0 @@
-pub mod Loans
-pub mod Params
-pub mod Lend
-pub mod Loaned
