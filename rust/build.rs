@@ -1,4 +1,4 @@
-//! Finds libnetflow_pending.a, which `rt staticlib netflow_pending` writes.
+//! Finds libnetflow_pending.a, which `tools/staticlib` writes.
 
 use std::env;
 use std::path::PathBuf;
@@ -18,7 +18,7 @@ fn main() {
     println!("cargo::rerun-if-changed={}", archive.display());
     assert!(
         archive.is_file(),
-        "{} is not there: run `rt staticlib netflow_pending`, or name its folder in \
+        "{} is not there: run `tools/staticlib`, or name its folder in \
         NETFLOW_PENDING_LIB_DIR",
         archive.display()
     );

@@ -1,4 +1,6 @@
 // The calls that change a cache: each answers document 01's number, 0 on success, and writes values then only.
+#![tactic(auto)]
+
 ghost use Rattle.std.specs.Prelude.{◌≡◌, [], ◌∷◌};
 ghost use Rattle.pending_flows.specs.View.{areas_of};
 ghost use Rattle.pending_calls.specs.Promises.{clear_answer};

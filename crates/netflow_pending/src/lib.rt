@@ -1,4 +1,6 @@
 // The calls of document 01 for programs in C and Rust: numbers and slices only.
+#![tactic(auto)]
+
 mod budget;
 mod cache;
 mod framing;
