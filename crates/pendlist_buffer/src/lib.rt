@@ -1,4 +1,6 @@
 // A turn: what is done with the bytes that a read brought.
+#![tactic(auto)]
+
 ghost use Rattle.std.specs.Prelude.{◌≡◌, ◌≤◌, length, take};
 ghost use Rattle.pending_flows.specs.View.{areas_of};
 ghost use Rattle.pendlist_texts.specs.Lists.{RunsText};

@@ -1,4 +1,6 @@
 // One line of a list, carried out on the lent areas (document 01, "Cases").
+#![tactic(auto)]
+
 ghost use Rattle.std.specs.Prelude.{◌≡◌, length};
 ghost use Rattle.pendlist_commands.specs.declared.Line.TheVariants as Says;
 ghost use Rattle.pendlist_input.specs.Body.{ramp};

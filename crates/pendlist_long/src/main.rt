@@ -1,5 +1,7 @@
 // The program `pendlist` on a long list that `oracle record-pendlist` wrote, whose table is the Rust's. A second `c`
 // ends it with `bad`.
-fn main() {
-    pendlist_run::run();
+use std::io;
+
+fn main(rt: HostRuntime) {
+    pendlist_run::run(&mut rt.reader(), &mut io::writer(&rt));
 }

@@ -1,66 +1,96 @@
 -- Text put piece by piece, and a number's digits. Assumes nothing.
-use mathlib.Core.Path.{◌≡◌, refl, sym, ◌∙◌}
+use mathlib.Core.Path.{◌≡◌, refl, sym, ap, subst, ◌∙◌}
 use mathlib.Core.Bool.{Bool, true, false, cond}
 use mathlib.Core.List.{List, [], ◌∷◌, ◌++◌, append_assoc, append-nil}
-use Prim.Native.Nat.{ℕ, zero, suc, ◌+◌, ◌*◌, ◌-◌, ◌^◌, ◌≤◌, ◌<◌}
-use native.Mathlib.Nat.{pow-le-pow_right}
-use native.Mathlib.Numerals.{add-one}
+use Prim.Native.Nat.{ℕ, zero, suc, ◌+◌, ◌*◌, ◌-◌, ◌/◌, ◌%◌, ◌^◌, ◌≤◌, ◌<◌}
+use native.Mathlib.Nat.{add-zero, pow-suc, one-le-pow}
+use native.Mathlib.Numerals.{add-one, unary_clauses}
 use native.Mathlib.Omega.{arith}
 use lib.ListN.{length, get_or, take, set, length-append, length-set}
 use lib.Seq.{length-take-le, take-suc, take-suc-set, take_at, take-length}
 use lib.Dec.{ltb}
 use borrow.Author.Tests.{ltb-true, ltb-false}
 use Rattle.areas.specs.Overwrite.{put_at}
-use Rattle.io.specs.Digits.{last_digits, IsDigitCount}
+use Rattle.std.specs.Fmt.{decimal, digits, digits_onto, digit_glyph}
+use Rattle.std.specs.Prelude.{◌==◌}
+use Rattle.std.proofs.lemmas.Bool.Decides.{nat_tests}
 use Rattle.pendlist_rows.specs.declared.Row.{Row}
 use Rattle.pendlist_rows.specs.declared.Outcome.{Outcome}
 use Rattle.pendlist_rows.specs.declared.Outcome.TheVariants.{Opened, Told, Bad}
-use Rattle.pendlist_rows.specs.Text.{places_from, decimal_of, number_text, numbers_text, row_text, outcome_text, Puts}
+use Rattle.pendlist_rows.specs.Text.{places_from, decimal_of, last_digits, number_text, numbers_text, row_text, outcome_text, Puts}
 
--- The digits that hold a number, tried from j on.
-module _ (n k : ℕ) (holds : n < 10 ^ k) where
-  places_are : (tries j : ℕ) → j ≤ k → k ≤ j + tries → (1 < k → 10 ^ (k - 1) ≤ n) → 0 < j → places_from tries j n ≡ k
-  unfolding places_from
-  places_are zero j low high fewest some = omega arith
-  places_are (suc tries) j low high fewest some =
-      by_test (ltb n (10 ^ j)) refl (places_are tries (suc j))
-    where
-      by_test : (q : Bool) → ltb n (10 ^ j) ≡ q →
-          (suc j ≤ k → k ≤ suc j + tries → (1 < k → 10 ^ (k - 1) ≤ n) → 0 < suc j → places_from tries (suc j) n ≡ k) →
-          cond q j (places_from tries (suc j) n) ≡ k
-      by_test true e more = by_order (ltb j k) refl
-        where
-          by_order : (q : Bool) → ltb j k ≡ q → j ≡ k
-          by_order true less =
-              let few : 10 ^ j ≤ 10 ^ (k - 1) = pow-le-pow_right (omega arith) (omega (arith, ltb-true j k less)) in
-              let most : 10 ^ (k - 1) ≤ n = fewest (omega (arith, ltb-true j k less)) in
-              absurd (omega (arith, ltb-true n (10 ^ j) e))
-          by_order false less = omega (arith, ltb-false j k less)
-      by_test false e more = by_order (ltb j k) refl
-        where
-          by_order : (q : Bool) → ltb j k ≡ q → places_from tries (suc j) n ≡ k
-          by_order true less = more (omega (arith, ltb-true j k less)) (omega arith) fewest (omega arith)
-          by_order false less =
-              let few : 10 ^ k ≤ 10 ^ j = pow-le-pow_right (omega arith) (omega (arith, ltb-false j k less)) in
-              absurd (omega (arith, ltb-false n (10 ^ j) e))
+-- The fewest digits that hold a number, tried from j on.
+record Fewest (n most k : ℕ) : Type 0 where
+  some : 0 < k
+  few : k ≤ most
+  hold : n < 10 ^ k
+  least : 1 < k → 10 ^ (k - 1) ≤ n
 
--- what `io::decimal` leaves
-pub decimal_is : {n k : ℕ} {text : List ℕ} → IsDigitCount 10 1 n k → k ≤ 20 → text ≡ last_digits 10 k n → text ≡ decimal_of n
-unfolding decimal_of
-decimal_is {n} {k} fewest few e =
-    e ∙ rw (places_are n k fewest.1 19 1 fewest.0 (omega arith) fewest.2 (omega arith))
-
--- a number of 64 bits has at most 20 digits
-pub few_digits : {n k : ℕ} → n < 18446744073709551616 → IsDigitCount 10 1 n k → k ≤ 20
-few_digits {n} {k} h fewest = by_order (ltb 20 k) refl
+places_fewest : (n tries j : ℕ) → 0 < j → (1 < j → 10 ^ (j - 1) ≤ n) → n < 10 ^ (j + tries) →
+    Fewest n (j + tries) (places_from tries j n)
+unfolding places_from
+places_fewest n zero j some least hold = record { some = some; few = omega arith; hold = rw add-zero at hold; least = least }
+places_fewest n (suc tries) j some least hold = by_test (ltb n (10 ^ j)) refl (places_fewest n tries (suc j) (omega arith))
   where
-    by_order : (q : Bool) → ltb 20 k ≡ q → k ≤ 20
-    by_order true e =
-        let many : 20 ≤ k - 1 = omega (arith, ltb-true 20 k e) in
-        let large : 100000000000000000000 ≤ 10 ^ (k - 1) = pow-le-pow_right {n = 10} (omega arith) many in
-        let least : 10 ^ (k - 1) ≤ n = fewest.2 (omega (arith, ltb-true 20 k e)) in
-        absurd (omega arith)
-    by_order false e = ltb-false 20 k e
+    by_test : (q : Bool) → ltb n (10 ^ j) ≡ q →
+        ((1 < suc j → 10 ^ (suc j - 1) ≤ n) → n < 10 ^ (suc j + tries) → Fewest n (suc j + tries) (places_from tries (suc j) n)) →
+        Fewest n (j + suc tries) (cond q j (places_from tries (suc j) n))
+    by_test true e next = record { some = some; few = omega arith; hold = ltb-true n (10 ^ j) e; least = least }
+    by_test false e next =
+        let same : j + suc tries ≡ suc j + tries = omega arith in
+        let left : Fewest n (suc j + tries) (places_from tries (suc j) n) =
+        next (λ _. simp unary_clauses (ltb-false n (10 ^ j) e)) (subst (λ (m : ℕ). n < 10 ^ m) same hold) in
+        record { some = left.some; few = omega (arith, left.few); hold = left.hold; least = left.least }
+
+glyph : (d : ℕ) → d < 10 → digit_glyph false d ≡ 48 + d
+glyph d h = grind (arith, nat_tests)
+
+none_left : (n : ℕ) → (n / 10 == 0) ≡ true → n < 10
+none_left n e = grind (arith, nat_tests)
+
+some_left : (n : ℕ) → (n / 10 == 0) ≡ false → 10 ≤ n
+some_left n e = grind (arith, nat_tests)
+
+-- std's digits of a number that suc j digits hold, and no fewer
+digits_are : (j turns n : ℕ) (more : List ℕ) → n < 10 ^ suc j → (0 < j → 10 ^ j ≤ n) → j < turns →
+    digits_onto turns 10 false n more ≡ last_digits (suc j) n ++ more
+digits_are j zero n more hold least h = absurd (omega arith)
+digits_are zero (suc turns) n more hold least h = by_test (n / 10 == 0) refl
+  where
+    by_test : (q : Bool) → (n / 10 == 0) ≡ q →
+        (cond q (digit_glyph false (n % 10) ∷ more) (digits_onto turns 10 false (n / 10) (digit_glyph false (n % 10) ∷ more)))
+        ≡ last_digits 1 n ++ more
+    by_test true e = ap (λ (d : ℕ). d ∷ more) (glyph (n % 10) (omega arith))
+    by_test false e = absurd (omega (arith, some_left n e))
+digits_are (suc j) (suc turns) n more hold least h =
+    by_test (n / 10 == 0) refl (digits_are j turns (n / 10) (digit_glyph false (n % 10) ∷ more))
+  where
+    by_test : (q : Bool) → (n / 10 == 0) ≡ q →
+        (n / 10 < 10 ^ suc j → (0 < j → 10 ^ j ≤ n / 10) → j < turns →
+        digits_onto turns 10 false (n / 10) (digit_glyph false (n % 10) ∷ more)
+        ≡ last_digits (suc j) (n / 10) ++ (digit_glyph false (n % 10) ∷ more)) →
+        (cond q (digit_glyph false (n % 10) ∷ more) (digits_onto turns 10 false (n / 10) (digit_glyph false (n % 10) ∷ more)))
+        ≡ last_digits (suc (suc j)) n ++ more
+    by_test true e next =
+        let large : 10 ^ suc j ≤ n = least (omega arith) in
+        absurd (omega (arith, none_left n e, pow-suc 10 j, one-le-pow j 10 (omega arith), large))
+    by_test false e next =
+        let large : 10 ^ suc j ≤ n = least (omega arith) in
+        next (omega (arith, pow-suc 10 (suc j))) (λ _. omega (arith, pow-suc 10 j, large)) (omega arith)
+        ∙ rw (glyph (n % 10) (omega arith)) (sym (append_assoc (last_digits (suc j) (n / 10)) ((48 + n % 10) ∷ []) more))
+
+all_digits : (n turns k : ℕ) → 20 ≤ turns → Fewest n 20 k → digits_onto turns 10 false n [] ≡ last_digits k n
+all_digits n turns zero h fewest = absurd (omega (arith, fewest.some))
+all_digits n turns (suc k) h fewest =
+    digits_are k turns n [] fewest.hold (λ more. simp unary_clauses at (fewest.least (omega arith))) (omega (arith, fewest.few))
+    ∙ append-nil (last_digits (suc k) n)
+
+-- what `itoa` writes
+pub decimal_is : {n : ℕ} → n < 18446744073709551616 → decimal n ≡ decimal_of n
+unfolding decimal_of digits
+decimal_is {n} h =
+    all_digits n 64 (places_from 19 1 n) (omega arith)
+    (places_fewest n 19 1 (omega arith) (λ more. absurd (omega arith)) (omega arith))
 
 -- One byte, and one piece behind another.
 pub byte_put : (b at : ℕ) (out : List ℕ) → at < length out → Puts (b ∷ []) 1 at out (at + 1) (set out at b)
@@ -85,16 +115,16 @@ module _ {text more : List ℕ} {most most' at r r' : ℕ} {out out' out'' : Lis
     short = omega (arith, first.short, then.short);
   }
 
--- a blank, then the digits that were worked out elsewhere
-pub number_put : (n at k : ℕ) (given : List ℕ) {out out' : List ℕ} → IsDigitCount 10 1 n k → k ≤ 20 →
-    take k given ≡ last_digits 10 k n → k ≡ length (take k given) → at + 21 ≤ length out →
-    out' ≡ put_at (at + 1) (take k given) (set out at 32) → Puts (number_text n) 21 at out (at + 1 + k) out'
-number_put n at k given {out} {out'} fewest few right counted h is =
+-- a blank, then the digits
+pub number_put : (n at : ℕ) {digits out out' : List ℕ} → n < 18446744073709551616 → digits ≡ decimal n → length digits ≤ 20 →
+    at + 21 ≤ length out → out' ≡ put_at (at + 1) digits (set out at 32) →
+    Puts (number_text n) 21 at out (at + 1 + length digits) out'
+number_put n at {digits} {out} {out'} fits right few h is =
     let blank : Puts (32 ∷ []) 1 at out (at + 1) (set out at 32) = byte_put 32 at out (omega arith) in
-    let behind : Puts (take k given) k (at + 1) (set out at 32) (at + 1 + k) out' =
-    rw is (bytes_put (take k given) k (at + 1) (set out at 32) counted (omega (arith, length-set out at 32))) in
-    let both : Puts (32 ∷ take k given) (1 + k) at out (at + 1 + k) out' = put_more blank behind in
-    record { follows = both.follows ∙ rw (decimal_is fewest few right); short = omega arith }
+    let behind : Puts digits (length digits) (at + 1) (set out at 32) (at + 1 + length digits) out' =
+    rw is (bytes_put digits (length digits) (at + 1) (set out at 32) refl (omega (arith, length-set out at 32))) in
+    let both : Puts (32 ∷ digits) (1 + length digits) at out (at + 1 + length digits) out' = put_more blank behind in
+    record { follows = both.follows ∙ rw (right, decimal_is fits); short = omega arith }
 
 -- Numbers, one after the other.
 numbers_end : (ns : List ℕ) (n : ℕ) → numbers_text (ns ++ (n ∷ [])) ≡ numbers_text ns ++ number_text n

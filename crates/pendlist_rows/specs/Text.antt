@@ -1,6 +1,5 @@
 -- The text of the table (document 01, "Cases").
-use Rattle.std.specs.Prelude.{◌≡◌, cond, List, [], ◌∷◌, ◌++◌, ℕ, zero, suc, ◌+◌, ◌^◌, ◌≤◌, ltb, take}
-use Rattle.io.specs.Digits.{last_digits}
+use Rattle.std.specs.Prelude.{◌≡◌, cond, List, [], ◌∷◌, ◌++◌, ℕ, zero, suc, ◌+◌, ◌/◌, ◌%◌, ◌^◌, ◌≤◌, ltb, take}
 use Rattle.pendlist_rows.specs.declared.Row.{Row}
 use Rattle.pendlist_rows.specs.declared.Outcome.{Outcome}
 use Rattle.pendlist_rows.specs.declared.Outcome.TheVariants.{Opened, Told, Bad}
@@ -10,9 +9,14 @@ unfoldable pub places_from : (tries k : ℕ) → ℕ → ℕ
 places_from zero k n = k
 places_from (suc tries) k n = cond (ltb n (10 ^ k)) k (places_from tries (suc k) n)
 
+-- the last k decimal digits of a number, the most significant first
+abbrev pub last_digits : ℕ → ℕ → List ℕ
+last_digits zero n = []
+last_digits (suc k) n = last_digits k (n / 10) ++ ((48 + n % 10) ∷ [])
+
 -- a number of 64 bits in decimal, without leading zeros: it has 1 to 20 digits
 unfoldable pub decimal_of : ℕ → List ℕ
-decimal_of n = last_digits 10 (places_from 19 1 n) n
+decimal_of n = last_digits (places_from 19 1 n) n
 
 abbrev pub number_text : ℕ → List ℕ
 number_text n = 32 ∷ decimal_of n

@@ -1,11 +1,14 @@
 // What a line of `pendlist` comes to, and its text in the table (document 01, "Cases").
+#![tactic(auto)]
+
 ghost use Rattle.std.specs.Prelude.{◌+◌, ◌*◌, ◌≤◌, length};
 ghost use Rattle.pendlist_rows.specs.Text.{number_text, numbers_text, row_text, outcome_text, Puts};
 
 use areas::write_body;
+use itoa::Buffer;
 
 // A row of the table.
-#[derive(Drop)]
+#[derive(Clone, Copy)]
 pub struct Row {
     // `o` or `d`
     pub call: u8,
@@ -20,7 +23,7 @@ pub struct Row {
 }
 
 // What a line comes to.
-#[derive(Drop)]
+#[derive(Clone, Copy)]
 pub enum Outcome {
     // a cache is open now
     Opened,
@@ -34,11 +37,11 @@ fn put_number(out: &mut [u8], at: usize, n: u64) -> usize
     requires { at + 21 ≤ length out.old }
     ensures { Puts (number_text n) 21 at out.old result out.new }
 {
-    let mut digits = [0u8; 20];
-    let k = io::decimal(n, &mut digits);
+    let mut buffer = Buffer::new();
+    let digits = buffer.format(n).as_bytes();
     out[at] = b' ';
-    write_body(out, at + 1, &digits[..k]);
-    at + 1 + k
+    write_body(out, at + 1, digits);
+    at + 1 + digits.len()
 }
 
 // Puts numbers into the text from `at` on, a blank before each.

@@ -3,9 +3,9 @@ ghost use Rattle.std.specs.Prelude.{◌≡◌, ◌≤◌, length};
 ghost use Rattle.pending_flows.specs.View.{areas_of};
 ghost use Rattle.pendlist_run.specs.Program.{ReadsBehind, HandsRows, RunsInput, RunsProgram};
 
-use libc::{STDIN_FILENO, STDOUT_FILENO};
 use pendlist_buffer::take_turn;
 use pendlist_calls::{byte_area, word_area};
+use std::io::{Read, Write};
 
 // How the program ended.
 #[derive(Clone, Copy)]
@@ -31,26 +31,34 @@ fn rows_room() -> [u8; 438272]
 }
 
 // Writes the rows of a turn, and answers whether all were written.
-fn write_rows(out: &[u8], filled: usize) -> bool
+fn write_rows<W: Write>(writer: &mut W, out: &[u8], filled: usize) -> bool
     requires { HandsRows out.now filled }
 {
-    io::write_all(STDOUT_FILENO, &out[..filled])
+    writer.write_all(&out[..filled]).is_ok()
 }
 
-// Reads more of standard input behind the first bytes of the buffer, and answers how many bytes then stand in it: no
-// more than before at the end of the input. A read that fails counts as the end.
-fn read_more(buffer: &mut [u8], kept: usize) -> usize
+// Reads more of the input behind the first bytes of the buffer, and answers how many bytes then stand in it: no more
+// than before at the end of the input. A read that fails counts as the end.
+fn read_more<R: Read>(reader: &mut R, buffer: &mut [u8], kept: usize) -> usize
     requires { kept ≤ length buffer.old }
     ensures { ReadsBehind kept buffer.old result buffer.new }
 {
-    let part = &mut buffer[kept..];
-    let got = libc::read(STDIN_FILENO, part);
-    kept + io::count(got, part)
+    match reader.read(&mut buffer[kept..]) {
+        Ok(got) => kept + got,
+        Err(_) => kept,
+    }
 }
 
-// Carries out the list on standard input turn by turn, and writes the rows of each turn before it reads again. A write
+// Carries out the list that a reader has turn by turn, and writes the rows of each turn before it reads again. A write
 // that fails ends it.
-fn run_input(words: &mut [u64], bytes: &mut [u8], buffer: &mut [u8], out: &mut [u8]) -> Ended
+fn run_input<R: Read, W: Write>(
+    reader: &mut R,
+    writer: &mut W,
+    words: &mut [u64],
+    bytes: &mut [u8],
+    buffer: &mut [u8],
+    out: &mut [u8],
+) -> Ended
     requires { (length buffer.old ≡ 4096) × (length out.old ≡ 438272) }
     ensures { RunsInput (areas_of words.old bytes.old) result
         (areas_of words.new bytes.new) }
@@ -59,9 +67,9 @@ fn run_input(words: &mut [u64], bytes: &mut [u8], buffer: &mut [u8], out: &mut [
     let mut opened = false;
     let mut reads = MOST_READS;
     while 0 < reads {
-        let n = read_more(buffer, kept);
+        let n = read_more(reader, buffer, kept);
         let turn = take_turn(words, bytes, buffer, kept, n, opened, out);
-        if !write_rows(out, turn.filled) {
+        if !write_rows(writer, out, turn.filled) {
             return Ended::Write;
         }
         if turn.bad {
@@ -77,16 +85,31 @@ fn run_input(words: &mut [u64], bytes: &mut [u8], buffer: &mut [u8], out: &mut [
     Ended::Reads
 }
 
+// Room for the bytes that are read.
+fn read_room() -> [u8; 4096]
+    ensures { 4096 ≡ length result }
+{
+    [0; 4096]
+}
+
 // Runs the program: writes the header, and carries out the list.
-pub fn run() -> Ended
+pub fn run<R: Read, W: Write>(reader: &mut R, writer: &mut W) -> Ended
     ensures { RunsProgram result }
 {
     let mut words = word_area();
     let mut bytes = byte_area();
-    let mut buffer = io::buffer();
+    let mut buffer = read_room();
     let mut out = rows_room();
-    if !io::write_all(STDOUT_FILENO, b"call answer held bytes cached dropped\n") {
+    let header = b"call answer held bytes cached dropped\n";
+    if writer.write_all(header).is_err() {
         return Ended::Write;
     }
-    run_input(&mut words, &mut bytes, &mut buffer, &mut out)
+    run_input(
+        reader,
+        writer,
+        &mut words,
+        &mut bytes,
+        &mut buffer,
+        &mut out,
+    )
 }

@@ -1,4 +1,6 @@
 // The lines of a text of `pendlist`, carried out one after the other, and their rows (document 01, "Cases").
+#![tactic(auto)]
+
 ghost use Rattle.std.specs.Prelude.{◌≡◌, ◌*◌, ◌≤◌, length};
 ghost use Rattle.pending_flows.specs.View.{areas_of};
 ghost use Rattle.pendlist_texts.specs.Lists.{is_bad, RunsAt, RunsText};

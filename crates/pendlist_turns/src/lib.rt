@@ -1,4 +1,6 @@
 // How far a turn of reading goes: which of the bytes that are there are carried out.
+#![tactic(auto)]
+
 ghost use Rattle.std.specs.Prelude.{◌≡◌, ◌≤◌, length, take};
 ghost use Rattle.pendlist_input.specs.Input.{whole_lines};
 ghost use Rattle.pendlist_turns.specs.Turns.{Ready};

@@ -1,14 +1,46 @@
 // A text that is longer than the buffer: whole lines are used up, and what follows them moves to the front.
 ghost use Rattle.std.specs.Prelude.{◌≡◌, ◌-◌, ◌≤◌, length};
 
-use libc::STDIN_FILENO;
+use std::io::Read;
 
-// Reads standard input into the buffer behind its first `kept` bytes, and answers how many bytes it then has.
-pub fn fill(buffer: &mut [u8], kept: usize) -> usize
+// Room for a part of a text.
+pub fn large_buffer() -> [u8; 65536]
+    ensures { 65536 ≡ length result }
+{
+    [0; 65536]
+}
+
+// One read into the buffer, and how many bytes it brought. A read that fails brings none.
+fn read_some<R: Read>(reader: &mut R, buffer: &mut [u8]) -> usize
+    ensures { result ≤ length buffer.old }
+{
+    match reader.read(buffer) {
+        Ok(n) => n,
+        Err(_) => 0,
+    }
+}
+
+// Reads until the buffer is full, the text ends or a read fails, and answers how many bytes the buffer then has.
+pub fn read_full<R: Read>(reader: &mut R, buffer: &mut [u8]) -> usize
+    ensures { result ≤ length buffer.old }
+{
+    let mut done: usize = 0;
+    while done < buffer.len() {
+        let n = read_some(reader, &mut buffer[done..]);
+        if n == 0 {
+            break;
+        }
+        done += n;
+    }
+    done
+}
+
+// Reads the text into the buffer behind its first `kept` bytes, and answers how many bytes it then has.
+pub fn fill<R: Read>(reader: &mut R, buffer: &mut [u8], kept: usize) -> usize
     requires { kept ≤ length buffer.old }
     ensures { result ≤ length buffer.old }
 {
-    let more = io::read_full(STDIN_FILENO, &mut buffer[kept..]);
+    let more = read_full(reader, &mut buffer[kept..]);
     kept + more
 }
 

@@ -1,11 +1,13 @@
 // Reading recorded lists of calls and answers: lines of decimal numbers, a buffer at a time.
+#![tactic(auto)]
+
 mod chunk;
 mod tally;
 
 ghost use Rattle.std.specs.Prelude.{◌<◌, ◌≤◌, length};
 ghost use Rattle.recorded.specs.Progress.{Onward};
 
-pub use chunk::{fill, move_to_front, whole_lines};
+pub use chunk::{fill, large_buffer, move_to_front, read_full, whole_lines};
 pub use tally::Tally;
 
 // A number of the text, and where the text goes on after it.

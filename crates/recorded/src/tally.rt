@@ -2,8 +2,6 @@
 ghost use Rattle.std.specs.Prelude.{◌≡◌};
 ghost use Rattle.recorded.specs.Count.{opened, one_more, with_row};
 
-use libc::STDOUT_FILENO;
-
 // How many rows were run, and how many of them differ from what was recorded.
 #[derive(Clone, Copy)]
 pub struct Tally {
@@ -18,12 +16,6 @@ fn next_count(n: u64) -> u64
     if n < 18446744073709551615 { n + 1 } else { n }
 }
 
-fn print_count(what: &[u8], n: u64) {
-    io::write_all(STDOUT_FILENO, what);
-    io::print_decimal(STDOUT_FILENO, n);
-    io::write_all(STDOUT_FILENO, b"\n");
-}
-
 impl Tally {
     pub fn new() -> Self
         ensures { result ≡ opened }
@@ -32,7 +24,7 @@ impl Tally {
     }
 
     // One row more. The number of a row that differs is printed.
-    pub fn with_row(self, same: bool) -> Self
+    pub fn with_row(self, rt: &impl Print, same: bool) -> Self
         ensures { result ≡ with_row self same }
     {
         let rows = next_count(self.rows);
@@ -42,7 +34,7 @@ impl Tally {
                 differ: self.differ,
             };
         }
-        print_count(b"differs: row ", rows);
+        let _ = println!(rt; "differs: row {rows}");
         Self {
             rows,
             differ: next_count(self.differ),
@@ -50,11 +42,11 @@ impl Tally {
     }
 
     // Prints both counts and answers how many rows differ.
-    pub fn print(self) -> u64
+    pub fn print(self, rt: &impl Print) -> u64
         ensures { result ≡ self.differ }
     {
-        print_count(b"rows: ", self.rows);
-        print_count(b"differ: ", self.differ);
+        let _ = println!(rt; "rows: {}", self.rows);
+        let _ = println!(rt; "differ: {}", self.differ);
         self.differ
     }
 }

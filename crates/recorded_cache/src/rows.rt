@@ -12,7 +12,7 @@ struct Numbers {
 }
 
 // A row up to its list.
-#[derive(Drop)]
+#[derive(Clone, Copy)]
 pub struct Row {
     pub call: u64,
     pub args: [u64; 8],

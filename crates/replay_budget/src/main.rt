@@ -2,6 +2,8 @@
 // arguments, the Rust's answer (a number and three values) and the budget after it (seven words), as decimal numbers
 //     call a1 .. a7 number x1 x2 x3 max_values max_payload used_values used_payload exceeded configured attempted
 // oracle/README.md lists the calls. Where a call has a form that is lent the budget, both forms are run.
+#![tactic(auto)]
+
 mod calls;
 
 ghost use Rattle.std.specs.Prelude.{◌≤◌, length};
@@ -9,7 +11,9 @@ ghost use Rattle.std.specs.Prelude.{◌≤◌, length};
 use calls::{Answered, limit_word, run_call};
 use output_budget::{DecodedOutputBudget, Exceeded};
 use output_preflight::{FieldValues, PayloadBytes};
-use recorded::{BUFFERS, Tally, fill, first_digit, move_to_front, next_number, whole_lines};
+use recorded::{
+    BUFFERS, Tally, fill, first_digit, large_buffer, move_to_front, next_number, whole_lines,
+};
 
 // The rows run so far, and the budget that the next call goes on with.
 #[derive(Clone, Copy)]
@@ -100,7 +104,7 @@ fn same_answer(got: Answered, row: [u64; 19]) -> bool {
 }
 
 // Runs the row that begins at `at`, and answers where the text goes on.
-fn run_row(text: &[u8], at: usize, replay: Replay) -> RowDone {
+fn run_row(rt: &impl Print, text: &[u8], at: usize, replay: Replay) -> RowDone {
     let read = read_row(text, at);
     let row = read.numbers;
     let tally = replay.tally;
@@ -114,7 +118,7 @@ fn run_row(text: &[u8], at: usize, replay: Replay) -> RowDone {
     RowDone {
         next: read.next,
         replay: Replay {
-            tally: tally.with_row(same),
+            tally: tally.with_row(rt, same),
             budget: after,
         },
     }
@@ -128,7 +132,7 @@ struct RowDone {
 }
 
 // Runs the rows of a text.
-fn run_rows(text: &[u8], replay: Replay) -> Replay {
+fn run_rows(rt: &impl Print, text: &[u8], replay: Replay) -> Replay {
     let mut replay = replay;
     let mut at: usize = 0;
     while at < text.len() {
@@ -136,7 +140,7 @@ fn run_rows(text: &[u8], replay: Replay) -> Replay {
         if start == text.len() {
             break;
         }
-        let done = run_row(text, start, replay);
+        let done = run_row(rt, text, start, replay);
         replay = done.replay;
         if done.next <= at {
             break;
@@ -147,10 +151,10 @@ fn run_rows(text: &[u8], replay: Replay) -> Replay {
 }
 
 // Runs the rows among the first bytes of the buffer.
-fn run_lines(buffer: &[u8], lines: usize, replay: Replay) -> Replay
+fn run_lines(rt: &impl Print, buffer: &[u8], lines: usize, replay: Replay) -> Replay
     requires { lines ≤ length buffer.now }
 {
-    run_rows(&buffer[..lines], replay)
+    run_rows(rt, &buffer[..lines], replay)
 }
 
 // An unused budget, and nothing counted.
@@ -162,31 +166,32 @@ fn begin() -> Replay {
 }
 
 // A right row, and rows that are wrong in the answer and in the budget: a comparison that notices nothing would show.
-fn run_wrong_rows() {
+fn run_wrong_rows(rt: &impl Print) {
     let rows =
         b"0 5 5 0 0 0 0 0 0 0 0 0 5 5 0 0 0 0 0\n3 9 0 0 0 0 0 0 24 1 5 9 5 5 0 0 1 5 9\n3 1 1 0 0 0 0 0 0 0 0 0 5 5 1 0 1 5 9\n";
-    let done = run_rows(rows, begin());
+    let done = run_rows(rt, rows, begin());
     let tally = done.tally;
-    tally.print();
+    tally.print(rt);
 }
 
-fn main() {
-    run_wrong_rows();
-    let mut room = io::large_buffer();
+fn main(rt: HostRuntime) {
+    run_wrong_rows(&rt);
+    let mut reader = rt.reader();
+    let mut room = large_buffer();
     let buffer: &mut [u8] = &mut room;
     let mut replay = begin();
     let mut kept: usize = 0;
     let mut turn: usize = 0;
     while turn < BUFFERS {
-        let n = fill(buffer, kept);
+        let n = fill(&mut reader, buffer, kept);
         let lines = whole_lines(buffer, n);
         if lines == 0 {
             break;
         }
-        replay = run_lines(buffer, lines, replay);
+        replay = run_lines(&rt, buffer, lines, replay);
         kept = move_to_front(buffer, lines, n);
         turn += 1;
     }
     let tally = replay.tally;
-    tally.print();
+    tally.print(&rt);
 }

@@ -1,5 +1,4 @@
 // What a row has against the answer of its call and the areas after it.
-use libc::STDOUT_FILENO;
 use pending_queries::{FiguresAnswer, take_figures};
 use recorded_cache::{Answered, Row, goes_on, same_handed_out, same_templates};
 
@@ -93,26 +92,14 @@ pub fn compare(
 }
 
 // Says what of a row differs, before the row is named.
-pub fn is_same(verdict: Verdict) -> bool {
-    match verdict {
-        Verdict::Same => {
-            return true;
-        }
-        Verdict::Length => {
-            io::write_all(STDOUT_FILENO, b"length ");
-        }
-        Verdict::Number => {
-            io::write_all(STDOUT_FILENO, b"number ");
-        }
-        Verdict::Value => {
-            io::write_all(STDOUT_FILENO, b"value ");
-        }
-        Verdict::Figure => {
-            io::write_all(STDOUT_FILENO, b"figure ");
-        }
-        Verdict::List => {
-            io::write_all(STDOUT_FILENO, b"list ");
-        }
-    }
+pub fn is_same(rt: &impl Print, verdict: Verdict) -> bool {
+    let _ = match verdict {
+        Verdict::Same => return true,
+        Verdict::Length => rt.print("length "),
+        Verdict::Number => rt.print("number "),
+        Verdict::Value => rt.print("value "),
+        Verdict::Figure => rt.print("figure "),
+        Verdict::List => rt.print("list "),
+    };
     false
 }

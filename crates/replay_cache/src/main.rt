@@ -6,7 +6,7 @@ mod wrong;
 
 ghost use Rattle.std.specs.Prelude.{◌≤◌, length};
 
-use recorded::{BUFFERS, fill, move_to_front, whole_lines};
+use recorded::{BUFFERS, fill, large_buffer, move_to_front, whole_lines};
 use replay::{Replay, begin, print_replay, run_rows};
 use wrong::run_wrong_rows;
 
@@ -20,6 +20,7 @@ const OFFERED: usize = 513;
 
 // Runs the rows among the first bytes of the buffer.
 fn run_lines(
+    rt: &impl Print,
     words: &mut [u64],
     bytes: &mut [u8],
     offered: &mut [u64],
@@ -29,28 +30,37 @@ fn run_lines(
 ) -> Replay
     requires { lines ≤ length buffer.now }
 {
-    run_rows(words, bytes, offered, &buffer[..lines], replay)
+    run_rows(rt, words, bytes, offered, &buffer[..lines], replay)
 }
 
-fn main() {
-    run_wrong_rows();
+fn main(rt: HostRuntime) {
+    run_wrong_rows(&rt);
+    let mut reader = rt.reader();
     let mut words = [0u64; WORDS];
     let mut bytes = [0u8; BYTES];
     let mut offered = [0u64; OFFERED];
-    let mut room = io::large_buffer();
+    let mut room = large_buffer();
     let buffer: &mut [u8] = &mut room;
     let mut replay = begin();
     let mut kept: usize = 0;
     let mut turn: usize = 0;
     while turn < BUFFERS {
-        let n = fill(buffer, kept);
+        let n = fill(&mut reader, buffer, kept);
         let lines = whole_lines(buffer, n);
         if lines == 0 {
             break;
         }
-        replay = run_lines(&mut words, &mut bytes, &mut offered, buffer, lines, replay);
+        replay = run_lines(
+            &rt,
+            &mut words,
+            &mut bytes,
+            &mut offered,
+            buffer,
+            lines,
+            replay,
+        );
         kept = move_to_front(buffer, lines, n);
         turn += 1;
     }
-    print_replay(replay);
+    print_replay(&rt, replay);
 }

@@ -3,7 +3,6 @@ ghost use Rattle.std.specs.Prelude.{◌≤◌, length};
 ghost use Rattle.recorded.specs.Progress.{Onward};
 
 use super::compare::{Verdict, compare, is_same};
-use libc::STDOUT_FILENO;
 use recorded::Tally;
 use recorded_cache::{Answered, KEPT, OFFERS, Row, read_row, run_call};
 
@@ -121,6 +120,7 @@ fn compare_lent(
 
 // Runs the row of a line.
 fn run_row(
+    rt: &impl Print,
     words: &mut [u64],
     bytes: &mut [u8],
     offered: &mut [u64],
@@ -136,7 +136,7 @@ fn run_row(
     let verdict = compare_lent(words, bytes, line, row, got, open, offered);
     let tally = open.tally;
     Replay {
-        tally: tally.with_row(is_same(verdict)),
+        tally: tally.with_row(rt, is_same(rt, verdict)),
         lists: open.lists,
         bytes: open.bytes,
         words: open.words,
@@ -161,6 +161,7 @@ fn line_end(text: &[u8], at: usize) -> usize
 
 // Runs the rows of a text, a line each.
 pub fn run_rows(
+    rt: &impl Print,
     words: &mut [u64],
     bytes: &mut [u8],
     offered: &mut [u64],
@@ -171,7 +172,7 @@ pub fn run_rows(
     let mut at: usize = 0;
     while at < text.len() {
         let end = line_end(text, at);
-        replay = run_row(words, bytes, offered, &text[at..end], replay);
+        replay = run_row(rt, words, bytes, offered, &text[at..end], replay);
         if end == text.len() {
             return replay;
         }
@@ -181,10 +182,8 @@ pub fn run_rows(
 }
 
 // Prints how many lists and rows were run, and how many rows differ.
-pub fn print_replay(replay: Replay) {
-    io::write_all(STDOUT_FILENO, b"lists: ");
-    io::print_decimal(STDOUT_FILENO, replay.lists);
-    io::write_all(STDOUT_FILENO, b"\n");
+pub fn print_replay(rt: &impl Print, replay: Replay) {
+    let _ = println!(rt; "lists: {}", replay.lists);
     let tally = replay.tally;
-    tally.print();
+    tally.print(rt);
 }

@@ -2,7 +2,7 @@
 use super::replay::{begin, print_replay, run_rows};
 
 // A wrong number, a wrong value, and each figure wrong; a row cut short, and a row that goes on.
-fn run_wrong_answers() {
+fn run_wrong_answers(rt: &impl Print) {
     let mut words = [0u64; 160];
     let mut bytes = [0u8; 64];
     let mut offered = [0u64; 513];
@@ -17,13 +17,16 @@ fn run_wrong_answers() {
         6 300 1 0 0 1 0 0 0 1 0 0 0\n\
         6 300 1 0 0 1 0 0 0 1 0 1\n\
         6 300 1 0 0 1 0 0 0 1 0 1 0 0\n";
-    print_replay(run_rows(&mut words, &mut bytes, &mut offered, rows, begin()));
+    print_replay(
+        rt,
+        run_rows(rt, &mut words, &mut bytes, &mut offered, rows, begin()),
+    );
 }
 
 // Lists with an offer missing, an offer that was not made, and one too many; with bodies swapped that differ in their
 // bytes alone or in their clock readings alone; with templates swapped; with a wrong id, a wrong count, a template
 // missing; with handed-out bodies swapped.
-fn run_wrong_lists() {
+fn run_wrong_lists(rt: &impl Print) {
     let mut words = [0u64; 160];
     let mut bytes = [0u8; 64];
     let mut offered = [0u64; 513];
@@ -42,11 +45,14 @@ fn run_wrong_lists() {
         1 301 0 6 0 0 2 5 12 5 0 0 1 300 2 0 1 301 3 2 4 3\n\
         2 300 6 0 2 1 3 4 5 0 2 1 301 3 2 3 4 1 0\n\
         7 1 0 4 1 3 4 5 0 2 1 301 3 2 3 4 0 1\n";
-    print_replay(run_rows(&mut words, &mut bytes, &mut offered, rows, begin()));
+    print_replay(
+        rt,
+        run_rows(rt, &mut words, &mut bytes, &mut offered, rows, begin()),
+    );
 }
 
 // Runs the wrong rows, and right ones among them.
-pub fn run_wrong_rows() {
-    run_wrong_answers();
-    run_wrong_lists();
+pub fn run_wrong_rows(rt: &impl Print) {
+    run_wrong_answers(rt);
+    run_wrong_lists(rt);
 }

@@ -25,7 +25,7 @@ fn numbers_in(text: &[u8]) -> Numbers {
 
 // Whether the text has this byte.
 fn has(text: &[u8], byte: u8) -> bool {
-    bytes::scan::find(text, 0, text.len(), byte) != text.len()
+    text.contains(&byte)
 }
 
 fn same_ttl(ttl: Ttl, expected: &[u8], value: u64) -> bool {

@@ -9,12 +9,11 @@ mod compare;
 ghost use Rattle.std.specs.Prelude.{◌≤◌, length};
 
 use compare::{same_outcome, same_reading};
-use libc::STDIN_FILENO;
 use pendlist_calls::{byte_area, run_line, word_area};
 use pendlist_input::line_end;
 use pendlist_lines::parse_line;
 use pendlist_rows::Outcome;
-use recorded::Tally;
+use recorded::{Tally, large_buffer, read_full};
 
 // A line as the first of an input.
 fn run_first(line: &[u8]) -> Outcome {
@@ -48,10 +47,9 @@ fn same(expected: &[u8], line: &[u8]) -> bool {
 
 // A row is wrong where it has no bar.
 fn same_row(row: &[u8]) -> bool {
-    let bar = bytes::scan::find(row, 0, row.len(), b'|');
-    if bar == row.len() {
+    let Some(bar) = row.iter().position(|byte| *byte == b'|') else {
         return false;
-    }
+    };
     let from = bar + 1;
     same(&row[..bar], &row[from..])
 }
@@ -65,12 +63,12 @@ fn row_end(text: &[u8], at: usize) -> usize
 }
 
 // Runs the rows of a text.
-fn run_rows(text: &[u8]) -> Tally {
+fn run_rows(rt: &impl Print, text: &[u8]) -> Tally {
     let mut tally = Tally::new();
     let mut at: usize = 0;
     while at < text.len() {
         let end = row_end(text, at);
-        tally = tally.with_row(same_row(&text[at..end]));
+        tally = tally.with_row(rt, same_row(&text[at..end]));
         if end == text.len() {
             break;
         }
@@ -81,17 +79,18 @@ fn run_rows(text: &[u8]) -> Tally {
 
 // A right row, then rows that are wrong in the reading, in a number, in the TTL, in the outcome and in a row of the
 // table, and one without a bar: a comparison that notices nothing would show.
-fn run_wrong_rows() {
+fn run_wrong_rows(rt: &impl Print) {
     let tally = run_rows(
+        rt,
         b"d 1 3|d 1 3\nbad|d 1 3\nd 1 4|d 1 3\nc 2 2 9 9 -|c 2 2 9 9 0\n1 open|o 1 6 0\n2 o 0 1 6 1 1|o 1 6 0\nbad\n",
     );
-    tally.print();
+    tally.print(rt);
 }
 
-fn main() {
-    run_wrong_rows();
-    let mut buffer = io::large_buffer();
-    let n = io::read_full(STDIN_FILENO, &mut buffer);
-    let tally = run_rows(&buffer[..n]);
-    tally.print();
+fn main(rt: HostRuntime) {
+    run_wrong_rows(&rt);
+    let mut buffer = large_buffer();
+    let n = read_full(&mut rt.reader(), &mut buffer);
+    let tally = run_rows(&rt, &buffer[..n]);
+    tally.print(&rt);
 }

@@ -2,11 +2,15 @@
 // Rust's answer, as decimal numbers
 //     reading max_records n w1 .. wn m b1 .. bm number values payload remainder
 // with reading 0 (v9 fixed), 1 (IPFIX fixed) or 2 (IPFIX variable), and 0 for what a refusal does not give.
+#![tactic(auto)]
+
 ghost use Rattle.std.specs.Prelude.{◌≤◌, ◌≡◌, length};
 ghost use Rattle.replay_preflight.specs.Same.{same_figures};
 
 use output_preflight::{Figures, answer_figures};
-use recorded::{BUFFERS, Tally, fill, first_digit, move_to_front, next_number, whole_lines};
+use recorded::{
+    BUFFERS, Tally, fill, first_digit, large_buffer, move_to_front, next_number, whole_lines,
+};
 use wire::Reading;
 
 // A row's end in the text, and whether the answer is the recorded one.
@@ -149,7 +153,7 @@ fn run_row(text: &[u8], at: usize, widths: &mut [u16], body: &mut [u8]) -> Compa
 }
 
 // Runs the rows of a text, and names those that differ.
-fn run_rows(text: &[u8], tally: Tally) -> Tally {
+fn run_rows(rt: &impl Print, text: &[u8], tally: Tally) -> Tally {
     let mut widths_room = width_room();
     let mut bytes_room = body_room();
     let widths: &mut [u16] = &mut widths_room;
@@ -162,7 +166,7 @@ fn run_rows(text: &[u8], tally: Tally) -> Tally {
             break;
         }
         let compared = run_row(text, start, widths, body);
-        tally = tally.with_row(compared.same);
+        tally = tally.with_row(rt, compared.same);
         if compared.next <= at {
             break;
         }
@@ -172,35 +176,36 @@ fn run_rows(text: &[u8], tally: Tally) -> Tally {
 }
 
 // Runs the rows among the first bytes of the buffer.
-fn run_lines(buffer: &[u8], lines: usize, tally: Tally) -> Tally
+fn run_lines(rt: &impl Print, buffer: &[u8], lines: usize, tally: Tally) -> Tally
     requires { lines ≤ length buffer.now }
 {
-    run_rows(&buffer[..lines], tally)
+    run_rows(rt, &buffer[..lines], tally)
 }
 
 // A right row, and one that is wrong in each figure: a comparison that notices nothing would show here.
-fn run_wrong_rows() {
+fn run_wrong_rows(rt: &impl Print) {
     let rows =
         b"0 9 1 1 1 5 0 1 1 0\n0 9 1 1 1 5 7 1 1 0\n0 9 1 1 1 5 0 2 1 0\n0 9 1 1 1 5 0 1 2 0\n0 9 1 1 1 5 0 1 1 1\n";
-    run_rows(rows, Tally::new()).print();
+    run_rows(rt, rows, Tally::new()).print(rt);
 }
 
-fn main() {
-    run_wrong_rows();
-    let mut room = io::large_buffer();
+fn main(rt: HostRuntime) {
+    run_wrong_rows(&rt);
+    let mut reader = rt.reader();
+    let mut room = large_buffer();
     let buffer: &mut [u8] = &mut room;
     let mut tally = Tally::new();
     let mut kept: usize = 0;
     let mut turn: usize = 0;
     while turn < BUFFERS {
-        let n = fill(buffer, kept);
+        let n = fill(&mut reader, buffer, kept);
         let lines = whole_lines(buffer, n);
         if lines == 0 {
             break;
         }
-        tally = run_lines(buffer, lines, tally);
+        tally = run_lines(&rt, buffer, lines, tally);
         kept = move_to_front(buffer, lines, n);
         turn += 1;
     }
-    tally.print();
+    tally.print(&rt);
 }

@@ -1,55 +1,60 @@
 // Runs document 01's cases, marked P or not, on the code, and prints each answer: the number, then the values.
-use libc::STDOUT_FILENO;
+#![tactic(auto)]
+
 use output_preflight::{PreflightAnswer, answer_figures, preflight};
 use wire::Reading;
 
 // Prints a blank and a number.
-fn print_value(n: u64) {
-    io::write_all(STDOUT_FILENO, b" ");
-    io::print_decimal(STDOUT_FILENO, n);
+fn print_value(rt: &impl Print, n: u64) {
+    let _ = print!(rt; " {n}");
 }
 
 // Prints the case's name and its answer: the number, and after 0 the cost and the remainder.
-fn show(name: &[u8], answer: PreflightAnswer) {
-    io::write_all(STDOUT_FILENO, name);
+fn show(rt: &impl Print, name: &str, answer: PreflightAnswer) {
+    let _ = rt.print(name);
     let told = answer_figures(answer);
-    print_value(told.number);
+    print_value(rt, told.number);
     if told.number == 0 {
-        print_value(told.values);
-        print_value(told.payload);
-        print_value(told.remainder);
+        print_value(rt, told.values);
+        print_value(rt, told.payload);
+        print_value(rt, told.remainder);
     }
-    io::write_all(STDOUT_FILENO, b"\n");
+    let _ = rt.println("");
 }
 
 // Widths 4, 4.
-fn fixed() {
+fn fixed(rt: &impl Print) {
     let zeros = [0u8; 20];
     let widths = [4u16, 4];
     show(
-        b"v9, 19 bytes:",
+        rt,
+        "v9, 19 bytes:",
         preflight(&zeros[..19], &widths, Reading::V9Fixed, 65536),
     );
     show(
-        b"v9, 20 bytes:",
+        rt,
+        "v9, 20 bytes:",
         preflight(&zeros, &widths, Reading::V9Fixed, 65536),
     );
     show(
-        b"IPFIX, 20 bytes:",
+        rt,
+        "IPFIX, 20 bytes:",
         preflight(&zeros, &widths, Reading::IpfixFixed, 65536),
     );
     show(
-        b"v9, 16 bytes, record limit 1:",
+        rt,
+        "v9, 16 bytes, record limit 1:",
         preflight(&zeros[..16], &widths, Reading::V9Fixed, 1),
     );
     show(
-        b"IPFIX, 16 bytes, record limit 1:",
+        rt,
+        "IPFIX, 16 bytes, record limit 1:",
         preflight(&zeros[..16], &widths, Reading::IpfixFixed, 1),
     );
 }
 
 // IPFIX widths 65,535, 2.
-fn variable() {
+fn variable(rt: &impl Print) {
     let widths = [65535u16, 2];
     let record = [3u8, 0x61, 0x62, 0x63, 0, 0x50];
     let two_zeros = [3u8, 0x61, 0x62, 0x63, 0, 0x50, 0, 0];
@@ -57,50 +62,60 @@ fn variable() {
     let cut = [3u8, 0x61, 0x62, 0x63, 0, 0x50, 0xff, 0xff, 0xff];
     let long = [0xffu8, 0, 1, 0x61, 0, 0x50];
     show(
-        b"03 61 62 63 00 50:",
+        rt,
+        "03 61 62 63 00 50:",
         preflight(&record, &widths, Reading::IpfixVariable, 65536),
     );
     show(
-        b"00 00 after:",
+        rt,
+        "00 00 after:",
         preflight(&two_zeros, &widths, Reading::IpfixVariable, 65536),
     );
     show(
-        b"00 00 00 after:",
+        rt,
+        "00 00 00 after:",
         preflight(&three_zeros, &widths, Reading::IpfixVariable, 65536),
     );
     show(
-        b"FF FF FF after:",
+        rt,
+        "FF FF FF after:",
         preflight(&cut, &widths, Reading::IpfixVariable, 65536),
     );
     show(
-        b"FF 00 01 61 00 50:",
+        rt,
+        "FF 00 01 61 00 50:",
         preflight(&long, &widths, Reading::IpfixVariable, 65536),
     );
 }
 
 // 9 before 12 before 7, and the largest sizes that are taken.
-fn refused() {
+fn refused(rt: &impl Print) {
     let bytes = [0u8; 65532];
     let widths = [1u16; 65536];
     let one = [1u16];
     show(
-        b"record limit 0, 65,532 bytes:",
+        rt,
+        "record limit 0, 65,532 bytes:",
         preflight(&bytes, &one, Reading::V9Fixed, 0),
     );
     show(
-        b"65,532 bytes:",
+        rt,
+        "65,532 bytes:",
         preflight(&bytes, &one, Reading::V9Fixed, 65536),
     );
     show(
-        b"65,531 bytes:",
+        rt,
+        "65,531 bytes:",
         preflight(&bytes[..65531], &one, Reading::V9Fixed, 65536),
     );
     show(
-        b"65,536 widths:",
+        rt,
+        "65,536 widths:",
         preflight(&bytes[..65531], &widths, Reading::IpfixFixed, 65536),
     );
     show(
-        b"65,535 widths:",
+        rt,
+        "65,535 widths:",
         preflight(
             &bytes[..65531],
             &widths[..65535],
@@ -109,7 +124,8 @@ fn refused() {
         ),
     );
     show(
-        b"65,531 widths:",
+        rt,
+        "65,531 widths:",
         preflight(
             &bytes[..65531],
             &widths[..65531],
@@ -120,25 +136,27 @@ fn refused() {
 }
 
 // A long prefix that takes the largest body whole, and the same body with one byte less.
-fn longest() {
+fn longest(rt: &impl Print) {
     let mut bytes = [0u8; 65531];
     bytes[0] = 255;
     bytes[1] = 255;
     bytes[2] = 248;
     let widths = [65535u16];
     show(
-        b"FF FF F8 and 65,528 bytes:",
+        rt,
+        "FF FF F8 and 65,528 bytes:",
         preflight(&bytes, &widths, Reading::IpfixVariable, 65536),
     );
     show(
-        b"one byte less:",
+        rt,
+        "one byte less:",
         preflight(&bytes[..65530], &widths, Reading::IpfixVariable, 65536),
     );
 }
 
-fn main() {
-    fixed();
-    variable();
-    refused();
-    longest();
+fn main(rt: HostRuntime) {
+    fixed(&rt);
+    variable(&rt);
+    refused(&rt);
+    longest(&rt);
 }

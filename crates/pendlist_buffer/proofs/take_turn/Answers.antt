@@ -1,0 +1,6 @@
+use Rattle.pendlist_buffer.proofs.OneTurn.{turn_taken}
+use Rattle.pendlist_buffer.proofs.take_turn.Goals as goal
+
+pub returns : goal.returns
+returns c = turn_taken _ _ _ _ c.requires.0 c.requires.1 c.bytes_ready-ready.ensures c.run_front-done.ensures
+    c.move_bytes_down.ensures

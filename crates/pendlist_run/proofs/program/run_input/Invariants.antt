@@ -1,0 +1,12 @@
+use mathlib.Core.Path.{◌≡◌}
+use lib.ListN.{length}
+use Rattle.pending_flows.specs.View.{areas_of}
+use Rattle.pendlist_run.proofs.Inputs.{InputAhead}
+use Rattle.pendlist_run.proofs.program.run_input.Given as goal
+
+abbrev pub invariant-loop-reads : goal.invariant-loop-reads
+invariant-loop-reads g l = (InputAhead (areas_of l.initial.words l.initial.bytes) l.kept l.buffer l.opened (areas_of l.words l.bytes))
+    × (length l.buffer ≡ 4096) × (length l.out ≡ 438272)
+
+abbrev pub decreases-loop-reads : goal.decreases-loop-reads
+decreases-loop-reads g l = l.reads
