@@ -8,7 +8,6 @@ use Rattle.table.specs.declared.TemplateRecord.{TemplateRecord}
 use Rattle.table_watch.specs.declared.EntryFound.{EntryFound}
 use Rattle.table_watch.specs.declared.EntryFound.TheVariants as Found
 use Rattle.table_watch.specs.declared.Sought.{Sought}
-use Rattle.table_watch.specs.declared.Sought.TheVariants as Sought
 use Rattle.table_watch.specs.declared.LabelSeen.{LabelSeen}
 use Rattle.table_watch.specs.declared.TableSeen.{TableSeen}
 use Rattle.table_watch.specs.declared.TableSeen.TheVariants as Seen
