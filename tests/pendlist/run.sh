@@ -1,5 +1,5 @@
 #!/usr/bin/env bash
-# What no contract can say of the program pendlist: how it reads and writes. Needs `rt check pendlist pendlist_long`.
+# What no contract can say of the program pendlist: how it reads and writes. Needs `tools/program pendlist pendlist_long`.
 set -eu
 cd "$(dirname "$0")/../.."
 program=target/bin/pendlist

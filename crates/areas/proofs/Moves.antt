@@ -131,7 +131,8 @@ module _ (from to len : ℕ) (area zeros block : List ℕ) (source : from + len 
   block_moved area' written = part_moved (take len block) area' block_holds written
 
   -- the same through an array of that length
-  pub whole_moved : length zeros ≡ len → (area' : List ℕ) → area' ≡ put_at to block area → area' ≡ moved from to len area
+  pub whole_moved : length zeros ≡ len → (area' : List ℕ) → area' ≡ put_at to block area → area' ≡ moved from to len
+      area
   whole_moved long area' written =
       let all : from + len - from ≡ len = omega arith in
       let part = take len (drop from area) in

@@ -245,7 +245,8 @@ module _ (f : ℕ → ℕ) where
           after_step2_renumbered (evicted n (untouched ts)),
         )
 
-  accepted_renumbered : (v : Verdict) (b : Body) → length (accepted_bodies v (renumber b)) ≡ length (accepted_bodies v b)
+  accepted_renumbered : (v : Verdict) (b : Body) → length (accepted_bodies v (renumber b)) ≡ length
+      (accepted_bodies v b)
   accepted_renumbered accepted b = refl
   accepted_renumbered (refused n) b = refl
 

@@ -79,7 +79,8 @@ module _ {x : Call} {a a' : Areas} {r : Answer} where
 pub handed_out_bytes : (k : ℕ) (c : Cache) → (handed_out k (unnumbered c)).bytes ≡ (handed_out k c).bytes
 handed_out_bytes k c = of_bodies k c.chance.bodies
   where
-    of_bodies : (n : ℕ) (bs : List Body) → (get_or (map unnumbered_body bs) n no_body).bytes ≡ (get_or bs n no_body).bytes
+    of_bodies : (n : ℕ) (bs : List Body) → (get_or (map unnumbered_body bs) n no_body).bytes ≡
+        (get_or bs n no_body).bytes
     of_bodies n [] = refl
     of_bodies zero (b ∷ bs) = refl
     of_bodies (suc n) (b ∷ bs) = of_bodies n bs

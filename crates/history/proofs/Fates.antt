@@ -100,7 +100,8 @@ all_fates es answers a b h accepted refusals =
       accepted = accepted;
       once = λ n. rw accepted (offered_once is_done n 0 es answers).0;
       together = rearranged (held ++ (handed ++ (dropped ++ a.cleared))) a.accepted (sum_together a b);
-      one_fate = λ n e. one_fate_lem n a (times_in n held) (times_in n handed) (times_in n dropped) (times_in n a.cleared)
+      one_fate = λ n e. one_fate_lem n a (times_in n held) (times_in n handed) (times_in n dropped)
+          (times_in n a.cleared)
           (refl, refl, refl, refl) (omega (arith, sum_fates a b (λ x. cond (eqb n x.number) 1 0)));
       in_order = held_ordered a h;
       chance_in_order = chance_ordered a h;

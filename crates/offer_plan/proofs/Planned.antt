@@ -78,7 +78,8 @@ module _ (w b : List ℕ) (id len clock : ℕ) where
   -- what is held of the model's plan, once n templates go for their bytes
   abbrev plan_at : List Template → Plan
   plan_at us =
-      plan_of l (length (keep (λ x. not (old x)) (bodies_of id us))) (length (without id us)) (length (kept_of lives us))
+      plan_of l (length (keep (λ x. not (old x)) (bodies_of id us))) (length (without id us))
+          (length (kept_of lives us))
 
   abbrev thin_at : ℕ → Plan → ℕ → List Body → List Body
   thin_at m p j bs =

@@ -52,7 +52,8 @@ module _ (w : List ℕ) (p n most : ℕ) where
   pub room_left : n < most → 1024 ≡ first_of_full most (records_from w p n)
   room_left h = rw (length_records w p n, lt-leb most n h)
 
-  pub none_left : (k : ℕ) → most ≤ n → k ≡ first_label (records_from w p n) → k ≡ first_of_full most (records_from w p n)
+  pub none_left : (k : ℕ) → most ≤ n → k ≡ first_label (records_from w p n) → k ≡ first_of_full most
+      (records_from w p n)
   none_left k h first = rw (length_records w p n, le-leb most n h) first
 
 -- where each record has live bodies, it is the first with live ones

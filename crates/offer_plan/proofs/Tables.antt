@@ -104,7 +104,8 @@ module _ (w b : List ℕ) (ok : well_formed w (length b) ≡ true) where
       (omega (arith, legal.limits_legal_lem.total_small)) legal.table_legal_lem.entries_placed) held labels_small
 
   pub held_counted : (clock : ℕ) →
-      Counted b es (λ x. not (expired (limits_of w).ttl clock x)) (summed (live_test (limits_of w).ttl clock) false zeros
+      Counted b es (λ x. not (expired (limits_of w).ttl clock x))
+          (summed (live_test (limits_of w).ttl clock) false zeros
       es) held
   held_counted clock =
       all_map (λ r. r.label < 1024) _

@@ -217,7 +217,8 @@ module _ {bytes ws next : List ℕ} {at prefixes i : ℕ} (inv : FieldsSpared by
         unfolding field_of
         prefix_cut n = by_test (ltb (at + 2) (length bytes)) refl
           where
-            missing : variable_field (drop at bytes) ≡ Cut → field_of (drop at bytes) (get_or ws i 0) IpfixVariable ≡ Cut
+            missing : variable_field (drop at bytes) ≡ Cut → field_of (drop at bytes) (get_or ws i 0) IpfixVariable ≡
+                Cut
             missing o = rw (eq-eqb (get_or ws i 0) 65535 k) o
 
             by_test : (t : Bool) → ltb (at + 2) (length bytes) ≡ t → fields_of bytes ws IpfixVariable ≡ Cut

@@ -85,6 +85,7 @@ module _ (w b : List ℕ) {v : Bool} (tested : v ≡ well_formed w (length b)) w
   pub clear_damaged : v ≡ false → Clears (areas_of w b) Clear.Damaged (areas_of w b)
   clear_damaged h = record { performs = damaged_performs w b tested cleared h; frame = untouched_all _ _ _ }
 
-  pub clear_done : {w' b' : List ℕ} → v ≡ true → Does cleared (cache_of (table_of w) b) (areas_of w b) done (areas_of w' b')
+  pub clear_done : {w' b' : List ℕ} → v ≡ true → Does cleared (cache_of (table_of w) b) (areas_of w b) done
+      (areas_of w' b')
       → Clears (areas_of w b) Clear.Done (areas_of w' b')
   clear_done h d = record { performs = performed w b tested cleared h d; frame = d.frame }

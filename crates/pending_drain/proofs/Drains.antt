@@ -42,7 +42,8 @@ pub record Settling (entries handed left bytes live : ℕ) (w : List ℕ) : Type
   pub header_fits : header_words ≤ length w
 
 module _ (w b : List ℕ) (i now : ℕ) (ok : well_formed w (length b) ≡ true) where
-  module _ {l : PendingFlowsConfig} {f : HeaderFigures} {p a : ℕ} (limits : l ≡ limits_of w) (figures : f ≡ figures_at w)
+  module _ {l : PendingFlowsConfig} {f : HeaderFigures} {p a : ℕ} (limits : l ≡ limits_of w)
+      (figures : f ≡ figures_at w)
       (from : p ≡ records_at l) (labelled : a ≡ label_or_none (label_of i (records_from w p f.templates))) where
     module _ {w₁ : List ℕ} {r : Removed} (out : TakesOut l.ttl now a p f w w₁ r) where
       abbrev Ready : ℕ → Type 0
@@ -58,7 +59,8 @@ module _ (w b : List ℕ) (i now : ℕ) (ok : well_formed w (length b) ≡ true)
           legal : LegalWords w (length b)
           legal = words_say w (length b) ok
 
-          ready : TakesOut (limits_of w).ttl now (label_for i (table_of w).held) (records_at (limits_of w)) (figures_at w)
+          ready : TakesOut (limits_of w).ttl now (label_for i (table_of w).held) (records_at (limits_of w))
+              (figures_at w)
               w w₁ r → Ready (records_at (limits_of w))
           ready o = (
             λ some. omega (

@@ -136,7 +136,8 @@ module _ (w b : List ℕ) (ok : well_formed w (length b) ≡ true) (i : ℕ) (x 
     records_are : records₁ ≡ closed (label_counts_but plan.label stay) held
     records_are = left_records w b ok i x.clock (size x) plan.label plans done
 
-    pub others_left : templates_at b entries₁ records₁ ≡ thinned (others w b ok i x small) (cache_of (table_of w) b).held
+    pub others_left : templates_at b entries₁ records₁ ≡ thinned (others w b ok i x small)
+        (cache_of (table_of w) b).held
     others_left = rw (entries_are, records_are) others_stay
 
     pub fresh_left : All (λ u. u.key ≢ i) records₁

@@ -71,7 +71,8 @@ module _ (l : PendingFlowsConfig) (len live : ℕ) where
 -- Both answers of `would_accept` on a well-formed cache, by what was seen of the id's bodies: x is the table that was
 -- tested, and l the limits that were read.
 module _ (w b : List ℕ) (id len clock : ℕ) {x : TableSeen} {s : LabelSeen} {l : PendingFlowsConfig} {v : Bool}
-    (tested : x ≡ examined w (length b) (Sought.Live id clock)) (seen : x ≡ Seen.WellFormed s) (limits : l ≡ limits_of w)
+    (tested : x ≡ examined w (length b) (Sought.Live id clock)) (seen : x ≡ Seen.WellFormed s)
+        (limits : l ≡ limits_of w)
     (is : v ≡ accepts_with l len s.live) where
   ok : well_formed w (length b) ≡ true
   ok = seen_legal w b (Sought.Live id clock) tested seen

@@ -57,7 +57,8 @@ module _ (l : PendingFlowsConfig) (w b : List ℕ) {v : Bool} (tested : v ≡ we
           Resizes l (areas_of w b) (Resize.Refused n) (areas_of w b)
       unfolding resized
       resize_refused {n} is =
-          let number_is : config_number l (length b) (length w) ≡ refusal_number n = sym answered ∙ ap answer_number is in
+          let number_is : config_number l (length b) (length w) ≡ refusal_number n = sym answered ∙ ap answer_number
+              is in
           record {
             performs = record {
               answer = rw (cached, number_is, ne_eqb (refusal_number n) 0 (refusal_some n));

@@ -52,7 +52,8 @@ module _ (b : List ℕ) (es : List Entry) where
   -- how many go until the total fits
   pub evictions_alike : (room : ℕ) (sizes : List ℕ) (rs : List TemplateRecord) (total : ℕ) →
       All (λ r. get_or sizes r.label 0 ≡ sum_bodies size (bodies_at b r.label es)) rs →
-      total ≡ byte_total (templates_at b es rs) → evictions_of room sizes total rs ≡ evictions room 0 (templates_at b es rs)
+      total ≡ byte_total (templates_at b es rs) → evictions_of room sizes total rs ≡ evictions room 0
+          (templates_at b es rs)
   unfolding evictions_of evictions
   evictions_alike room sizes [] total sized is = refl
   evictions_alike room sizes (r ∷ rs) total sized is =

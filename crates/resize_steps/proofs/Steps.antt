@@ -42,7 +42,8 @@ module _ (l : PendingFlowsConfig) (w skip₀ : List ℕ) (p n c m : ℕ) where
       skip₁ ≡ skipping_over l.max_entries_per_template counts skip₀ (records_from w p n) →
       leaving ≡ n - l.max_pending_flows → skip₂ ≡ skipping skip₁ (records_from w p leaving) →
       skip₃ ≡ skipping skip₂ (records_from w (p + record_words * n) c) →
-      skip₃ ≡ cut_skips l (records_from w p n) (records_from w (p + record_words * n) c) (entries_from w entries_at m) skip₀
+      skip₃ ≡ cut_skips l (records_from w p n) (records_from w (p + record_words * n) c) (entries_from w entries_at m)
+          skip₀
   unfolding cut_skips
   cut_skips_lem small counted over beyond first last =
       let leaving = records_take w p (n - l.max_pending_flows) n (omega arith) in

@@ -85,7 +85,8 @@ draws_exact l (x ∷ xs) d s i =
     by_number (yes e) r = omega (arith, less_same l x some i e, occurs_here i x xs e)
     by_number (no e) r = omega (arith, less_other l x some i e, occurs_later i x xs e)
 
-pub exact_draws : (l xs : List ℕ) → ((i : ℕ) → get_or l i 0 ≡ occurs i xs) → (draws l xs ≡ true) × (sum_of l ≡ length xs)
+pub exact_draws : (l xs : List ℕ) → ((i : ℕ) → get_or l i 0 ≡ occurs i xs) → (draws l xs ≡ true) ×
+    (sum_of l ≡ length xs)
 unfolding draws occurs
 exact_draws l [] f = (refl, zero_sum l f)
 exact_draws l (x ∷ xs) f =

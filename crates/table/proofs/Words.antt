@@ -52,7 +52,8 @@ module _ (w : List ℕ) (p k : ℕ) where
     one_more : k ≡ suc (k - 1)
     one_more = omega arith
 
-    pub entries_first : (e : Entry) → e ≡ entry_at w p → entries_from w p k ≡ e ∷ entries_from w (p + entry_words) (k - 1)
+    pub entries_first : (e : Entry) → e ≡ entry_at w p → entries_from w p k ≡ e ∷ entries_from w (p + entry_words)
+        (k - 1)
     unfolding entries_from
     entries_first e is = ap (entries_from w p) one_more ∙ rw is
 

@@ -37,7 +37,8 @@ pub entries_below : (w w' : List ℕ) (p k n : ℕ) → p + entry_words * k ≤ 
     entries_from w p k ≡ entries_from w' p k
 entries_below w w' p k n h e = entries_same w w' p k (λ i a b. word_below w w' n e i (omega arith))
 
-pub entries_above : (w w' : List ℕ) (p k n : ℕ) → n ≤ p → drop n w ≡ drop n w' → entries_from w p k ≡ entries_from w' p k
+pub entries_above : (w w' : List ℕ) (p k n : ℕ) → n ≤ p → drop n w ≡ drop n w' → entries_from w p k ≡ entries_from w'
+    p k
 entries_above w w' p k n h e = entries_same w w' p k (λ i a b. word_above w w' n e i (omega arith))
 
 -- one entry more, behind the others

@@ -55,7 +55,8 @@ pub record PackedSoFar (keep : List Entry → List Entry) (whole : List Entry) (
   pub tail : drop (entries_at + entry_words * entries) w ≡ drop (entries_at + entry_words * entries) w₀
 
 pub none_packed : (keep : List Entry → List Entry) (entries : ℕ) (w b : List ℕ) →
-    entries_at + entry_words * entries ≤ length w → places_legal 0 (length b) (entries_from w entries_at entries) ≡ true →
+    entries_at + entry_words * entries ≤ length w → places_legal 0 (length b) (entries_from w entries_at entries) ≡
+        true →
     PackedSoFar keep (keep (entries_from w entries_at entries)) entries w b w b (record { from = 0; to = 0; len = 0 })
     0 entries entries_at entries_at
 unfolding entries_from
@@ -205,5 +206,6 @@ module _ {keep : List Entry → List Entry} {whole : List Entry} {entries : ℕ}
               rest_bytes = rw (to_end, same_later) moved_with;
               rest_end = rw (to_end, same_later) (rw (kept_first, sym up.behind) at inv.rest_end);
               head = take_put w to (placed_at at e) entries_at (omega (arith, inv.filled)) ∙ inv.head;
-              tail = drop_put w to (placed_at at e) (entries_at + entry_words * entries) (omega (arith, inv)) ∙ inv.tail;
+              tail = drop_put w to (placed_at at e) (entries_at + entry_words * entries) (omega (arith, inv)) ∙
+                  inv.tail;
             }

@@ -91,7 +91,8 @@ module _ (w : List ℕ) (entries size most out total : ℕ) where
       unfolding entries_pass
       last_test = rw (entries_none w p left none) at inv.test
 
-      pub ends_past : most < end → false ≡ entries_pass size most out total 0 allow₀ 0 (entries_from w entries_at entries)
+      pub ends_past : most < end → false ≡ entries_pass size most out total 0 allow₀ 0
+          (entries_from w entries_at entries)
       ends_past h = rw (lt-leb end most h) at last_test
 
       module _ (inside : end ≤ most) where

@@ -37,7 +37,8 @@ sum_along_lem ws (i ∷ is) f =
     later : (j : ℕ) → (j ≡ i → ⊥) → 0 < get_or ws j 0 → occurs j is ≡ 1
     later j d h = sym (occurs_later j i is d) ∙ f j h
 
-    by_weight : Dec (get_or ws i 0 ≡ 0) → (((j : ℕ) → 0 < get_or ws j 0 → occurs j is ≡ 1) → sum_along ws is ≡ sum_of ws) →
+    by_weight : Dec (get_or ws i 0 ≡ 0) → (((j : ℕ) → 0 < get_or ws j 0 → occurs j is ≡ 1) → sum_along ws is ≡ sum_of
+        ws) →
         (((j : ℕ) → 0 < get_or (set ws i 0) j 0 → occurs j is ≡ 1) → sum_along (set ws i 0) is ≡ sum_of (set ws i 0)) →
         get_or ws i 0 + sum_along ws is ≡ sum_of ws
     by_weight (yes z) g h =

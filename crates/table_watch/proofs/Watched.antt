@@ -164,7 +164,8 @@ module _ (w : List ℕ) (watch : Watch) (entries : ℕ) where
       abbrev rest : List Entry
       rest = entries_from w (p + entry_words) (left - 1)
 
-      next_count : count_watched watch (entries_from w p left) ≡ cond (is_watched watch e) 1 0 + count_watched watch rest
+      next_count : count_watched watch (entries_from w p left) ≡ cond (is_watched watch e) 1 0 + count_watched watch
+          rest
       unfolding count_watched
       next_count = rw (entries_first w p left more e is)
 

@@ -71,7 +71,8 @@ module _ (first second : List ℕ) where
       m' = cond (remains second r) (m + 1) m
 
       by_test : (t : Bool) → remains first r ≡ t →
-          Twice (n + 1) m' rs (get_or (positions first (n + 1) rs) i nowhere) (get_or (positions second m' rs) i nowhere) →
+          Twice (n + 1) m' rs (get_or (positions first (n + 1) rs) i nowhere)
+              (get_or (positions second m' rs) i nowhere) →
           Twice n m' rs (get_or (positions first n rs) i nowhere) (get_or (positions second m' rs) i nowhere) →
           Twice n m (r ∷ rs) (get_or (positions first (cond t (n + 1) n) rs) i nowhere)
           (get_or (positions second m' rs) i nowhere)

@@ -42,7 +42,8 @@ module _ (label : ℕ) where
   others_pass [] = tt
   others_pass (e ∷ es) = (λ d. rw (ne_eqb label e.label d), others_pass es)
 
-  pub all_of_others : (k : ℕ) → (label ≡ k → ⊥) → (es : List Entry) → tally k (kept_by (other_than label) es) ≡ tally k es
+  pub all_of_others : (k : ℕ) → (label ≡ k → ⊥) → (es : List Entry) → tally k (kept_by (other_than label) es) ≡ tally
+      k es
   all_of_others k o es = kept_others (other_than label) label k o es (others_pass es)
 
   -- all of the label are skipped, and none of another

@@ -105,7 +105,8 @@ module _ (w : List ℕ) (n : ℕ) (ok : well_formed w n ≡ true) (b : List ℕ)
               ∙ packed.records;
           index = index_above before w' p indexed (entries_at + entry_words * length kept) below past ∙ packed.index;
           head = take_puts w' entries_at kept entries_at (omega arith) ∙ packed.head;
-          tail = drop_puts w' entries_at kept (p + record_words * (held_count w + chance_count w)) (omega (arith, below))
+          tail = drop_puts w' entries_at kept (p + record_words * (held_count w + chance_count w))
+              (omega (arith, below))
               ∙ packed.tail;
           long = length_puts w' entries_at kept ∙ packed.long;
         };

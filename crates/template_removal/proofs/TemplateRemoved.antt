@@ -177,7 +177,8 @@ module _ (w : List ℕ) (n : ℕ) (ok : well_formed w n ≡ true) (label apart :
       unknown true e h = absurd (false≢true (sym h))
       unknown false e h = absent_tally apart rs stay (absent_says apart rs e) stay_known
 
-      by_count : (s : Bool) → ltb 0 (get_or kept apart 0) ≡ s → (t : Bool) → ltb apart 1024 ≡ t → 0 ≡ get_or kept apart 0
+      by_count : (s : Bool) → ltb 0 (get_or kept apart 0) ≡ s → (t : Bool) → ltb apart 1024 ≡ t → 0 ≡ get_or kept
+          apart 0
       by_count false e t f = omega (arith, ltb-false 0 (get_or kept apart 0) e)
       by_count true e true f =
           sym (label_has apart (ltb-true apart 1024 f) ∙ unknown (has_label apart rs) refl (rw e at no_record_left))

@@ -11,7 +11,11 @@ pub returns-then-entries-gt-MAX_BODIES : goal.returns-then-entries-gt-MAX_BODIES
 returns-then-entries-gt-MAX_BODIES c = search (many_entries, rules)
 
 pub overflow_mul-templates : goal.overflow_mul-templates
-overflow_mul-templates c = omega (arith, mul-le-mul c.if-templates-gt-MAX_TEMPLATES.false c.if-entries-gt-MAX_BODIES.false)
+overflow_mul-templates c = omega (
+  arith,
+  mul-le-mul c.if-templates-gt-MAX_TEMPLATES.false
+      c.if-entries-gt-MAX_BODIES.false,
+)
 
 pub returns-then-templates-entries-gt-MAX_BODIES : goal.returns-then-templates-entries-gt-MAX_BODIES
 returns-then-templates-entries-gt-MAX_BODIES c = search (many_bodies, rules)

@@ -13,7 +13,12 @@ returns-then-ends_past c = let unaged = c.requires.none_expired.0 in
     c.remove_packing.ensures
 
 pub remove_planned-requires : goal.remove_planned-requires
-remove_planned-requires c = record { bytes_value = search rules; figures_value = search rules; keeps_all = search rules; none_expired = search rules }
+remove_planned-requires c = record {
+  bytes_value = search rules;
+  figures_value = search rules;
+  keeps_all = search rules;
+  none_expired = search rules;
+}
 
 pub returns : goal.returns
 returns c = search (left_so, rules)

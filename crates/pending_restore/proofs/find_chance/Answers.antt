@@ -25,15 +25,18 @@ pub records_at-requires : goal.records_at-requires
 records_at-requires c = search (bodies_few, rules)
 
 pub overflow_mul-held : goal.overflow_mul-held
-overflow_mul-held c = let within = handed_within _ _ _ _ c.requires.0 c.limits_at.ensures c.records_at.ensures c.if-words-eq0.false in
+overflow_mul-held c = let within = handed_within _ _ _ _ c.requires.0 c.limits_at.ensures c.records_at.ensures
+    c.if-words-eq0.false in
     omega (arith, within)
 
 pub overflow_add-records_at : goal.overflow_add-records_at
-overflow_add-records_at c = let within = handed_within _ _ _ _ c.requires.0 c.limits_at.ensures c.records_at.ensures c.if-words-eq0.false in
+overflow_add-records_at c = let within = handed_within _ _ _ _ c.requires.0 c.limits_at.ensures c.records_at.ensures
+    c.if-words-eq0.false in
     omega (arith, within)
 
 pub record_at-template-requires : goal.record_at-template-requires
-record_at-template-requires c = let within = handed_within _ _ _ _ c.requires.0 c.limits_at.ensures c.records_at.ensures c.if-words-eq0.false in
+record_at-template-requires c = let within = handed_within _ _ _ _ c.requires.0 c.limits_at.ensures
+    c.records_at.ensures c.if-words-eq0.false in
     within
 
 pub returns-then-id-template : goal.returns-then-id-template

@@ -15,7 +15,8 @@ pub records_at-from-requires : goal.records_at-from-requires
 records_at-from-requires c = search (bodies_few, rules)
 
 pub overflow_cast-less : goal.overflow_cast-less
-overflow_cast-less c = omega (arith, count_small _ c.args.bytes.now _ _ c.requires.bytes_value c.requires.n_nonzero.0 c.requires.n_nonzero.1)
+overflow_cast-less c = omega (arith, count_small _ c.args.bytes.now _ _ c.requires.bytes_value c.requires.n_nonzero.0
+    c.requires.n_nonzero.1)
 
 pub take_back-removed-requires : goal.take_back-removed-requires
 take_back-removed-requires c = let ok = c.requires.bytes_value in
@@ -32,6 +33,7 @@ pub write_header-requires : goal.write_header-requires
 write_header-requires c = omega (arith, c.take_back-removed.auto.words, header_within _ _ c.requires.bytes_value)
 
 pub returns : goal.returns
-returns c = put_back_written _ _ _ _ c.requires.bytes_value c.requires.n_nonzero.0 c.requires.n_nonzero.1 c.limits_at-limits.ensures
+returns c = put_back_written _ _ _ _ c.requires.bytes_value c.requires.n_nonzero.0 c.requires.n_nonzero.1
+    c.limits_at-limits.ensures
     c.figures_at-figures.ensures c.records_at-from.ensures c.take_back-removed.ensures c.take_back-removed.auto.words
     c.write_header.ensures

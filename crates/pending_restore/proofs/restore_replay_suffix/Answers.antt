@@ -15,7 +15,10 @@ pub returns-in_default : goal.returns-in_default
 returns-in_default c = search (put_back_refused, rules)
 
 pub put_back-requires : goal.put_back-requires
-put_back-requires c = record { bytes_value = search (well_formed_lem, rules); n_nonzero = (search (pos_of_ne-zero, rules), has_chance c.find_chance.ensures c.in-At.is) }
+put_back-requires c = record {
+  bytes_value = search (well_formed_lem, rules);
+  n_nonzero = (search (pos_of_ne-zero, rules), has_chance c.find_chance.ensures c.in-At.is);
+}
 
 pub returns-then-well_formed : goal.returns-then-well_formed
 returns-then-well_formed c = search (put_back_done, rules)

@@ -8,7 +8,11 @@ pub loop-i-init : goal.loop-i-init
 loop-i-init c = search (no_blank_passed, rules)
 
 pub loop-i-preserved : goal.loop-i-preserved
-loop-i-preserved c = elim c.if-line-i-eq32.branch [ then-line-i-eq32 w ↦ search (blank_passed, rules) | else-line-i-eq32 w ↦ search (other_passed, rules) ]
+loop-i-preserved c =
+    elim c.if-line-i-eq32.branch [
+      | then-line-i-eq32 w ↦ search (blank_passed, rules)
+      | else-line-i-eq32 w ↦ search (other_passed, rules)
+    ]
 
 pub returns : goal.returns
 returns c = search (blanks_counted, rules)

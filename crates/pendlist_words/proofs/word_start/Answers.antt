@@ -11,7 +11,11 @@ pub returns-then-left-eq0 : goal.returns-then-left-eq0
 returns-then-left-eq0 c = search (word_here, rules)
 
 pub loop-i-preserved : goal.loop-i-preserved
-loop-i-preserved c = elim c.if-line-i-eq32.branch [ then-line-i-eq32 w ↦ search (word_passed, rules) | else-line-i-eq32 w ↦ search (byte_passed, rules) ]
+loop-i-preserved c =
+    elim c.if-line-i-eq32.branch [
+      | then-line-i-eq32 w ↦ search (word_passed, rules)
+      | else-line-i-eq32 w ↦ search (byte_passed, rules)
+    ]
 
 pub returns : goal.returns
 returns c = search (word_missing, rules)

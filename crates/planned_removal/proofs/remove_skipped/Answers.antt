@@ -5,7 +5,10 @@ use Rattle.planned_removal.proofs.PlannedRemoval.{planned_long, removed_planned,
 use Rattle.planned_removal.proofs.remove_skipped.Goals as goal
 
 pub remove_whole-requires : goal.remove_whole-requires
-remove_whole-requires c = record { bytes_value = search rules; figures_value = (search rules, search (planned_whole, rules)) }
+remove_whole-requires c = record {
+  bytes_value = search rules;
+  figures_value = (search rules, search (planned_whole, rules));
+}
 
 pub returns-then-plan : goal.returns-then-plan
 returns-then-plan c = search (whole_planned, rules)
@@ -17,8 +20,12 @@ pub records_at-requires : goal.records_at-requires
 records_at-requires c = search (bodies_few, rules)
 
 pub remove-requires : goal.remove-requires
-remove-requires c = record { entries_bound = (search (entries_below, rules), search (records_inside, rules)); records_bound = (search (records_few, rules), search (planned_long, rules)) }
+remove-requires c = record {
+  entries_bound = (search (entries_below, rules), search (records_inside, rules));
+  records_bound = (search (records_few, rules), search (planned_long, rules));
+}
 
 pub returns : goal.returns
-returns c = removed_planned _ _ c.requires.bytes_value.0 _ _ _ _ _ _ _ _ c.requires.figures_value.0 c.requires.bytes_value.1 c.records_at.ensures
+returns c = removed_planned _ _ c.requires.bytes_value.0 _ _ _ _ _ _ _ _ c.requires.figures_value.0
+    c.requires.bytes_value.1 c.records_at.ensures
     c.stay_test.ensures c.skip_planned.ensures c.remove.ensures

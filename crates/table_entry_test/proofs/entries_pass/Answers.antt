@@ -29,7 +29,10 @@ pub overflow_add-held : goal.overflow_add-held
 overflow_add-held c = record { fits = search (held_fits, not-false, rules) }
 
 pub pass_entry-passed-requires : goal.pass_entry-passed-requires
-pass_entry-passed-requires c = record { entry_words_in_bounds = (search rules, search rules); live_bound = search rules }
+pass_entry-passed-requires c = record {
+  entry_words_in_bounds = (search rules, search rules);
+  live_bound = search rules;
+}
 
 pub returns-then-max_total-end : goal.returns-then-max_total-end
 returns-then-max_total-end c = search (damaged, ends_past, rules)

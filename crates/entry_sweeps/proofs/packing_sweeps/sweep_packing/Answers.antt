@@ -23,7 +23,8 @@ pub loop-left-preserved : goal.loop-left-preserved
 loop-left-preserved c = elim c.if-stays.branch [
   | then-stays v ↦ rw (v.words-is ∙ v.put_entry.ensures, v.bytes-is, v.run-is, v.kept-is, v.to-is)
       (search (entry_packed, v.run_up_to-run.ensures, first_kept, rules))
-  | else-stays v ↦ rw (v.words-is, v.bytes-is, v.run-is, v.kept-is, v.to-is) (search (entry_passed_over, first_goes, rules))
+  | else-stays v ↦ rw (v.words-is, v.bytes-is, v.run-is, v.kept-is, v.to-is)
+      (search (entry_passed_over, first_goes, rules))
 ]
 
 pub returns : goal.returns

@@ -6,7 +6,8 @@ use Rattle.entry_sweeps.specs.KeptBy.{kept_by}
 use Rattle.entry_sweeps.proofs.packing_sweeps.sweep_packing.Given as goal
 
 abbrev pub invariant-loop-left : goal.invariant-loop-left
-invariant-loop-left l = PackedSoFar (kept_by (stays l.test)) (kept_by (stays l.test) (entries_from l.initial.words entries_at l.entries)) l.entries l.initial.words l.initial.bytes
+invariant-loop-left l = PackedSoFar (kept_by (stays l.test)) (kept_by (stays l.test)
+    (entries_from l.initial.words entries_at l.entries)) l.entries l.initial.words l.initial.bytes
     l.words l.bytes l.run l.kept l.left l.from l.to
 
 abbrev pub decreases-loop-left : goal.decreases-loop-left

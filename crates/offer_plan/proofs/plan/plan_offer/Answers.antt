@@ -17,7 +17,12 @@ pub overflow_sub-left : goal.overflow_sub-left
 overflow_sub-left c = search (leaving_few, rules)
 
 pub decide-decision-requires : goal.decide-decision-requires
-decide-decision-requires c = record { entries_in_bounds = search (entries_within, rules); records_in_bounds = search (stay_within, rules); live_read = search (live_read, rules); live_seen = search (live_seen, rules) }
+decide-decision-requires c = record {
+  entries_in_bounds = search (entries_within, rules);
+  records_in_bounds = search (stay_within, rules);
+  live_read = search (live_read, rules);
+  live_seen = search (live_seen, rules);
+}
 
 pub record_of-own-requires : goal.record_of-own-requires
 record_of-own-requires c = search (records_within, rules)

@@ -22,7 +22,8 @@ overflow_cast-live c = record {
 }
 
 pub sweep-left-requires : goal.sweep-left-requires
-sweep-left-requires c = sweep_room _ c.args.bytes.now c.requires.bytes_value.0 c.requires.figures_value.1 c.requires.figures_value.0
+sweep-left-requires c = sweep_room _ c.args.bytes.now c.requires.bytes_value.0 c.requires.figures_value.1
+    c.requires.figures_value.0
 
 pub close_apart-requires : goal.close_apart-requires
 close_apart-requires c = let ok = c.requires.bytes_value.0 in
@@ -31,7 +32,8 @@ close_apart-requires c = let ok = c.requires.bytes_value.0 in
     (omega (arith, inside, c.sweep-left.auto.words), records_few _ _ ok _ figures)
 
 pub returns : goal.returns
-returns c = expired_removed _ c.args.bytes.now c.requires.bytes_value.0 c.requires.figures_value.1 _ c.requires.figures_value.0
+returns c = expired_removed _ c.args.bytes.now c.requires.bytes_value.0 c.requires.figures_value.1 _
+    c.requires.figures_value.0
     c.requires.bytes_value.1 c.records_at-from.ensures c.count_whole.ensures _ _ _ c.requires.live_value
     c.set_sum.ensures c.label_test-test.ensures c.sweep-left.ensures c.close_apart.ensures
     (c.close_apart.auto.words ∙ c.sweep-left.auto.words)

@@ -16,7 +16,8 @@ pub count_whole-requires : goal.count_whole-requires
 count_whole-requires c = search (records_inside, rules)
 
 pub sweep-left-requires : goal.sweep-left-requires
-sweep-left-requires c = sweep_room _ c.args.bytes.now c.requires.bytes_value.0 c.requires.figures_value.1 c.requires.figures_value.0
+sweep-left-requires c = sweep_room _ c.args.bytes.now c.requires.bytes_value.0 c.requires.figures_value.1
+    c.requires.figures_value.0
 
 pub close_apart-requires : goal.close_apart-requires
 close_apart-requires c = let ok = c.requires.bytes_value.0 in
@@ -25,6 +26,7 @@ close_apart-requires c = let ok = c.requires.bytes_value.0 in
     (omega (arith, inside, c.sweep-left.auto.words), records_few _ _ ok _ figures)
 
 pub returns : goal.returns
-returns c = whole_removed _ c.args.bytes.now c.requires.bytes_value.0 c.requires.figures_value.1 _ c.requires.figures_value.0
+returns c = whole_removed _ c.args.bytes.now c.requires.bytes_value.0 c.requires.figures_value.1 _
+    c.requires.figures_value.0
     c.requires.bytes_value.1 c.records_at-from.ensures c.count_whole.ensures c.stay_all.ensures refl
     c.sweep-left.ensures c.close_apart.ensures (c.close_apart.auto.words ∙ c.sweep-left.auto.words)

@@ -23,7 +23,12 @@ pub live_figures-live-requires : goal.live_figures-live-requires
 live_figures-live-requires c = search (entries_room, rules)
 
 pub take_label-removed-requires : goal.take_label-removed-requires
-take_label-removed-requires c = record { bytes_value = (c.requires.0, c.limits_at-limits.ensures); figures_value = (c.figures_at-figures.ensures, c.records_at-from.ensures); label_value = c.label_for-label.ensures; live_value = bodies_told _ _ _ _ c.live_figures-live.ensures }
+take_label-removed-requires c = record {
+  bytes_value = (c.requires.0, c.limits_at-limits.ensures);
+  figures_value = (c.figures_at-figures.ensures, c.records_at-from.ensures);
+  label_value = c.label_for-label.ensures;
+  live_value = bodies_told _ _ _ _ c.live_figures-live.ensures;
+}
 
 pub hand_out-chance-requires : goal.hand_out-chance-requires
 hand_out-chance-requires c = let ready = hand_ready _ c.args.bytes.now _ _ c.requires.0
@@ -32,21 +37,24 @@ hand_out-chance-requires c = let ready = hand_ready _ c.args.bytes.now _ _ c.req
     record { records_in_bounds = ready.0; records_value = ready.1 }
 
 pub dropped_after-requires : goal.dropped_after-requires
-dropped_after-requires c = let done = settling _ c.args.bytes.now _ _ c.requires.0 c.limits_at-limits.ensures c.figures_at-figures.ensures
+dropped_after-requires c = let done = settling _ c.args.bytes.now _ _ c.requires.0 c.limits_at-limits.ensures
+    c.figures_at-figures.ensures
     c.records_at-from.ensures c.label_for-label.ensures c.take_label-removed.ensures c.live_figures-live.ensures
     c.requires.1 c.hand_out-chance.ensures (c.hand_out-chance.auto.words ∙ c.take_label-removed.auto.words)
     c.handed_count-handed.ensures in
     (done.less_handed, done.less_left)
 
 pub total_after-requires : goal.total_after-requires
-total_after-requires c = let done = settling _ c.args.bytes.now _ _ c.requires.0 c.limits_at-limits.ensures c.figures_at-figures.ensures
+total_after-requires c = let done = settling _ c.args.bytes.now _ _ c.requires.0 c.limits_at-limits.ensures
+    c.figures_at-figures.ensures
     c.records_at-from.ensures c.label_for-label.ensures c.take_label-removed.ensures c.live_figures-live.ensures
     c.requires.1 c.hand_out-chance.ensures (c.hand_out-chance.auto.words ∙ c.take_label-removed.auto.words)
     c.handed_count-handed.ensures in
     done.less_live
 
 pub write_header-requires : goal.write_header-requires
-write_header-requires c = let done = settling _ c.args.bytes.now _ _ c.requires.0 c.limits_at-limits.ensures c.figures_at-figures.ensures
+write_header-requires c = let done = settling _ c.args.bytes.now _ _ c.requires.0 c.limits_at-limits.ensures
+    c.figures_at-figures.ensures
     c.records_at-from.ensures c.label_for-label.ensures c.take_label-removed.ensures c.live_figures-live.ensures
     c.requires.1 c.hand_out-chance.ensures (c.hand_out-chance.auto.words ∙ c.take_label-removed.auto.words)
     c.handed_count-handed.ensures in

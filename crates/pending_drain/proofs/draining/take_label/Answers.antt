@@ -12,7 +12,10 @@ pub nothing_goes-requires : goal.nothing_goes-requires
 nothing_goes-requires c = search (held_room, rules)
 
 pub remove_none-requires : goal.remove_none-requires
-remove_none-requires c = record { bytes_value = search rules; figures_value = (search rules, (c.nothing_goes.ensures (search rules)).hands_none) }
+remove_none-requires c = record {
+  bytes_value = search rules;
+  figures_value = (search rules, (c.nothing_goes.ensures (search rules)).hands_none);
+}
 
 pub returns-then-nothing_goes : goal.returns-then-nothing_goes
 returns-then-nothing_goes c = search (none_taken, rules)
@@ -21,17 +24,20 @@ pub returns-then-figures-eq0 : goal.returns-then-figures-eq0
 returns-then-figures-eq0 c = search (expired_taken, rules)
 
 pub overflow_mul-handed : goal.overflow_mul-handed
-overflow_mul-handed c = let inside = records_inside _ (length c.args.bytes.now) c.requires.bytes_value.0 _ c.requires.figures_value.0 _
+overflow_mul-handed c = let inside = records_inside _ (length c.args.bytes.now) c.requires.bytes_value.0 _
+    c.requires.figures_value.0 _
     c.requires.bytes_value.1 _ c.requires.figures_value.1 in
     search (inside, rules)
 
 pub overflow_add-handed : goal.overflow_add-handed
-overflow_add-handed c = let inside = records_inside _ (length c.args.bytes.now) c.requires.bytes_value.0 _ c.requires.figures_value.0 _
+overflow_add-handed c = let inside = records_inside _ (length c.args.bytes.now) c.requires.bytes_value.0 _
+    c.requires.figures_value.0 _
     c.requires.bytes_value.1 _ c.requires.figures_value.1 in
     search (inside, rules)
 
 pub skip_records-requires : goal.skip_records-requires
-skip_records-requires c = let inside = records_inside _ (length c.args.bytes.now) c.requires.bytes_value.0 _ c.requires.figures_value.0 _
+skip_records-requires c = let inside = records_inside _ (length c.args.bytes.now) c.requires.bytes_value.0 _
+    c.requires.figures_value.0 _
     c.requires.bytes_value.1 _ c.requires.figures_value.1 in
     search (inside, rules)
 
@@ -47,7 +53,8 @@ remove_expired-requires c = let skips = c.skip_records.ensures in
         skips_whole _ c.args.bytes.now _ c.requires.bytes_value.0 c.requires.bytes_value.1 figures from labelled
             c.args.clock skips,
       );
-      live_value = live_stay _ c.args.bytes.now _ c.requires.bytes_value.0 c.requires.bytes_value.1 figures from labelled
+      live_value = live_stay _ c.args.bytes.now _ c.requires.bytes_value.0 c.requires.bytes_value.1 figures from
+          labelled
           _ skips _ c.requires.live_value;
     }
 

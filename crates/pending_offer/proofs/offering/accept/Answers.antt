@@ -35,7 +35,8 @@ choose_label-label-requires c = let done = c.remove_for_body-left.ensures in
     done.removes c.requires.bytes_value.1 done.removes.long)
 
 pub add_body-requires : goal.add_body-requires
-add_body-requires c = let known : Accepting c.args.words.now c.args.bytes.now c.args.limits c.args.id c.args.body.now c.args.clock
+add_body-requires c = let known : Accepting c.args.words.now c.args.bytes.now c.args.limits c.args.id c.args.body.now
+    c.args.clock
     c.args.plan c.remove_for_body-left.ensures.unpacked c.remove_for_body-left.result c.choose_label-label.result =
     let done = c.remove_for_body-left.ensures in
     record {
@@ -55,7 +56,8 @@ add_body-requires c = let known : Accepting c.args.words.now c.args.bytes.now c.
     (left_with c.requires.bytes_value.1 done.ensures.left)
 
 pub overflow_sub-drops : goal.overflow_sub-drops
-overflow_sub-drops c = let known : Accepting c.args.words.now c.args.bytes.now c.args.limits c.args.id c.args.body.now c.args.clock
+overflow_sub-drops c = let known : Accepting c.args.words.now c.args.bytes.now c.args.limits c.args.id c.args.body.now
+    c.args.clock
     c.args.plan c.remove_for_body-left.ensures.unpacked c.remove_for_body-left.result c.choose_label-label.result =
     let done = c.remove_for_body-left.ensures in
     record {
@@ -72,7 +74,8 @@ overflow_sub-drops c = let known : Accepting c.args.words.now c.args.bytes.now c
     accepted_fewer known c.held_bodies-held.ensures
 
 pub overflow_add-total : goal.overflow_add-total
-overflow_add-total c = let known : Accepting c.args.words.now c.args.bytes.now c.args.limits c.args.id c.args.body.now c.args.clock
+overflow_add-total c = let known : Accepting c.args.words.now c.args.bytes.now c.args.limits c.args.id c.args.body.now
+    c.args.clock
     c.args.plan c.remove_for_body-left.ensures.unpacked c.remove_for_body-left.result c.choose_label-label.result =
     let done = c.remove_for_body-left.ensures in
     record {
@@ -89,7 +92,8 @@ overflow_add-total c = let known : Accepting c.args.words.now c.args.bytes.now c
     record { fits = total_fits known }
 
 pub overflow_add-left : goal.overflow_add-left
-overflow_add-left c = let known : Accepting c.args.words.now c.args.bytes.now c.args.limits c.args.id c.args.body.now c.args.clock
+overflow_add-left c = let known : Accepting c.args.words.now c.args.bytes.now c.args.limits c.args.id c.args.body.now
+    c.args.clock
     c.args.plan c.remove_for_body-left.ensures.unpacked c.remove_for_body-left.result c.choose_label-label.result =
     let done = c.remove_for_body-left.ensures in
     record {
@@ -106,7 +110,8 @@ overflow_add-left c = let known : Accepting c.args.words.now c.args.bytes.now c.
     record { fits = records_fit known }
 
 pub overflow_add-left-2 : goal.overflow_add-left-2
-overflow_add-left-2 c = let known : Accepting c.args.words.now c.args.bytes.now c.args.limits c.args.id c.args.body.now c.args.clock
+overflow_add-left-2 c = let known : Accepting c.args.words.now c.args.bytes.now c.args.limits c.args.id
+    c.args.body.now c.args.clock
     c.args.plan c.remove_for_body-left.ensures.unpacked c.remove_for_body-left.result c.choose_label-label.result =
     let done = c.remove_for_body-left.ensures in
     record {
@@ -123,7 +128,8 @@ overflow_add-left-2 c = let known : Accepting c.args.words.now c.args.bytes.now 
     record { fits = entries_fit known }
 
 pub settle-requires : goal.settle-requires
-settle-requires c = let known : Accepting c.args.words.now c.args.bytes.now c.args.limits c.args.id c.args.body.now c.args.clock
+settle-requires c = let known : Accepting c.args.words.now c.args.bytes.now c.args.limits c.args.id c.args.body.now
+    c.args.clock
     c.args.plan c.remove_for_body-left.ensures.unpacked c.remove_for_body-left.result c.choose_label-label.result =
     let done = c.remove_for_body-left.ensures in
     record {

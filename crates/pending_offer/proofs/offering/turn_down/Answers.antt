@@ -15,7 +15,8 @@ remove_planned-left-requires c = let plans = c.requires.plans.0 in
     }
 
 pub overflow_sub-drops : goal.overflow_sub-drops
-overflow_sub-drops c = let known : Refusing c.args.words.now c.args.bytes.now c.args.limits c.args.id c.args.body.now c.args.clock c.args.plan
+overflow_sub-drops c = let known : Refusing c.args.words.now c.args.bytes.now c.args.limits c.args.id c.args.body.now
+    c.args.clock c.args.plan
     c.remove_planned-left.new.words c.remove_planned-left.result = record {
       ok = c.requires.bytes_value.0;
       limits = c.requires.bytes_value.1;
@@ -28,7 +29,8 @@ overflow_sub-drops c = let known : Refusing c.args.words.now c.args.bytes.now c.
     refused_fewer known c.held_bodies-held.ensures
 
 pub overflow_add-drops : goal.overflow_add-drops
-overflow_add-drops c = let known : Refusing c.args.words.now c.args.bytes.now c.args.limits c.args.id c.args.body.now c.args.clock c.args.plan
+overflow_add-drops c = let known : Refusing c.args.words.now c.args.bytes.now c.args.limits c.args.id c.args.body.now
+    c.args.clock c.args.plan
     c.remove_planned-left.new.words c.remove_planned-left.result = record {
       ok = c.requires.bytes_value.0;
       limits = c.requires.bytes_value.1;
@@ -41,7 +43,8 @@ overflow_add-drops c = let known : Refusing c.args.words.now c.args.bytes.now c.
     record { fits = drops_fit known c.held_bodies-held.ensures }
 
 pub settle-requires : goal.settle-requires
-settle-requires c = let known : Refusing c.args.words.now c.args.bytes.now c.args.limits c.args.id c.args.body.now c.args.clock c.args.plan
+settle-requires c = let known : Refusing c.args.words.now c.args.bytes.now c.args.limits c.args.id c.args.body.now
+    c.args.clock c.args.plan
     c.remove_planned-left.new.words c.remove_planned-left.result = record {
       ok = c.requires.bytes_value.0;
       limits = c.requires.bytes_value.1;
@@ -54,7 +57,8 @@ settle-requires c = let known : Refusing c.args.words.now c.args.bytes.now c.arg
     refused_settles known
 
 pub returns : goal.returns
-returns c = let known : Refusing c.args.words.now c.args.bytes.now c.args.limits c.args.id c.args.body.now c.args.clock c.args.plan
+returns c = let known : Refusing c.args.words.now c.args.bytes.now c.args.limits c.args.id c.args.body.now
+    c.args.clock c.args.plan
     c.remove_planned-left.new.words c.remove_planned-left.result = record {
       ok = c.requires.bytes_value.0;
       limits = c.requires.bytes_value.1;

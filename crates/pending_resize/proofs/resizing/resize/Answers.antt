@@ -8,7 +8,8 @@ pub returns-then-not-well_formed : goal.returns-then-not-well_formed
 returns-then-not-well_formed c = search (resize_damaged, rules)
 
 pub resize_cache-requires : goal.resize_cache-requires
-resize_cache-requires c = resize_legal _ _ c.args.bytes.now c.well_formed-2.ensures (ap not c.if-not-well_formed.false) _
+resize_cache-requires c = resize_legal _ _ c.args.bytes.now c.well_formed-2.ensures
+    (ap not c.if-not-well_formed.false) _
     c.validate_config.ensures c.in-Accepted.is
 
 pub returns-in-Refused : goal.returns-in-Refused

@@ -13,7 +13,8 @@ fit_total-left-requires c = let fits = total_fits _ _ c.args.bytes.now _ _ c.req
     record { entries_bound = fits.0; records_bound = fits.1 }
 
 pub fit_places-requires : goal.fit_places-requires
-fit_places-requires c = places_fit _ _ c.args.bytes.now _ _ c.requires.bytes_value c.requires.from_value c.cut-few.ensures
+fit_places-requires c = places_fit _ _ c.args.bytes.now _ _ c.requires.bytes_value c.requires.from_value
+    c.cut-few.ensures
     c.fit_total-left.ensures
 
 pub records_at-to-requires : goal.records_at-to-requires

@@ -11,4 +11,8 @@ pub returns-then-test-entry-2 : goal.returns-then-test-entry-2
 returns-then-test-entry-2 c = search (not_aged, not-true, rules)
 
 pub returns : goal.returns
-returns c = elim c.if-not-test.branch [ then-not-test+else-test-entry-2 v ↦ search (label_aged, not-true, rules) | else-not-test v ↦ search (all_aged, not-false, rules) ]
+returns c =
+    elim c.if-not-test.branch [
+      then-not-test+else-test-entry-2 v ↦ search (label_aged, not-true, rules)
+    | else-not-test v ↦ search (all_aged, not-false, rules)
+    ]

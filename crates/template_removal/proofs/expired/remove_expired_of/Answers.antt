@@ -13,28 +13,33 @@ pub overflow_add-records : goal.overflow_add-records
 overflow_add-records c = record { fits = search (records_fit, rules) }
 
 pub sweep_staying-left-requires : goal.sweep_staying-left-requires
-sweep_staying-left-requires c = let below = entries_below _ _ c.requires.bytes_value.0 _ c.requires.figures_value _ c.requires.bytes_value.1 _
+sweep_staying-left-requires c = let below = entries_below _ _ c.requires.bytes_value.0 _ c.requires.figures_value _
+    c.requires.bytes_value.1 _
     c.records_at-from.ensures in
     let inside = records_inside _ _ c.requires.bytes_value.0 _ c.requires.figures_value _ c.requires.bytes_value.1 _
     c.records_at-from.ensures in
     omega (arith, below, inside)
 
 pub take_record-taken-requires : goal.take_record-taken-requires
-take_record-taken-requires c = let inside = records_inside _ _ c.requires.bytes_value.0 _ c.requires.figures_value _ c.requires.bytes_value.1 _
+take_record-taken-requires c = let inside = records_inside _ _ c.requires.bytes_value.0 _ c.requires.figures_value _
+    c.requires.bytes_value.1 _
     c.records_at-from.ensures in
     omega (arith, inside, c.sweep_staying-left.auto.words)
 
 pub overflow_cast-went : goal.overflow_cast-went
 overflow_cast-went c = record {
-  fits = went_fits _ _ c.requires.bytes_value.0 _ _ c.requires.figures_value c.requires.bytes_value.1 c.records_at-from.ensures
+  fits = went_fits _ _ c.requires.bytes_value.0 _ _ c.requires.figures_value c.requires.bytes_value.1
+      c.records_at-from.ensures
       c.label_test-test.ensures c.sweep_staying-left.ensures;
 }
 
 pub overflow_sub-rest : goal.overflow_sub-rest
-overflow_sub-rest c = went_of_label _ _ c.requires.bytes_value.0 _ _ c.requires.figures_value c.requires.bytes_value.1 c.records_at-from.ensures
+overflow_sub-rest c = went_of_label _ _ c.requires.bytes_value.0 _ _ c.requires.figures_value c.requires.bytes_value.1
+    c.records_at-from.ensures
     c.label_test-test.ensures c.sweep_staying-left.ensures c.take_record-taken.ensures
 
 pub returns : goal.returns
-returns c = expired_removed _ _ c.requires.bytes_value.0 _ _ c.requires.figures_value c.requires.bytes_value.1 c.records_at-from.ensures
+returns c = expired_removed _ _ c.requires.bytes_value.0 _ _ c.requires.figures_value c.requires.bytes_value.1
+    c.records_at-from.ensures
     c.label_test-test.ensures c.sweep_staying-left.ensures c.take_record-taken.ensures
     (c.take_record-taken.auto.words ∙ c.sweep_staying-left.auto.words)

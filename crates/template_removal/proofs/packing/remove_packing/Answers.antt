@@ -13,7 +13,8 @@ pub overflow_add-records : goal.overflow_add-records
 overflow_add-records c = record { fits = search (records_fit, rules) }
 
 pub sweep_packing-left-requires : goal.sweep_packing-left-requires
-sweep_packing-left-requires c = let below = entries_below _ _ c.requires.bytes_value.0 _ c.requires.figures_value _ c.requires.bytes_value.1 _
+sweep_packing-left-requires c = let below = entries_below _ _ c.requires.bytes_value.0 _ c.requires.figures_value _
+    c.requires.bytes_value.1 _
     c.records_at-from.ensures in
     let inside = records_inside _ _ c.requires.bytes_value.0 _ c.requires.figures_value _ c.requires.bytes_value.1 _
     c.records_at-from.ensures in
@@ -21,11 +22,13 @@ sweep_packing-left-requires c = let below = entries_below _ _ c.requires.bytes_v
     (omega (arith, below, inside), placed)
 
 pub take_both-requires : goal.take_both-requires
-take_both-requires c = let inside = records_inside _ _ c.requires.bytes_value.0 _ c.requires.figures_value _ c.requires.bytes_value.1 _
+take_both-requires c = let inside = records_inside _ _ c.requires.bytes_value.0 _ c.requires.figures_value _
+    c.requires.bytes_value.1 _
     c.records_at-from.ensures in
     omega (arith, inside, c.sweep_packing-left.auto.words)
 
 pub returns : goal.returns
-returns c = packing_removed _ _ c.requires.bytes_value.0 _ _ c.requires.figures_value c.requires.bytes_value.1 c.records_at-from.ensures
+returns c = packing_removed _ _ c.requires.bytes_value.0 _ _ c.requires.figures_value c.requires.bytes_value.1
+    c.records_at-from.ensures
     c.label_test-test.ensures c.sweep_packing-left.ensures c.take_both.ensures (search rules)
     (c.take_both.auto.words ∙ c.sweep_packing-left.auto.words)
