@@ -4,7 +4,7 @@ use mathlib.Core.Path.{◌≡◌, sym, ap, ◌∙◌}
 use mathlib.Core.Logic.{inl, inr}
 use mathlib.Core.Bool.{true, false}
 use mathlib.Core.List.{List}
-use Prim.Native.Nat.{ℕ, ◌+◌, ◌*◌, ◌≤◌}
+use Prim.Native.Nat.{ℕ, ◌+◌, ◌*◌, ◌≤◌, ◌<◌}
 use native.Mathlib.Omega.{arith}
 use lib.ListN.{length}
 use borrow.Author.Tests.{le-leb, lt-leb}
@@ -23,8 +23,10 @@ use Rattle.table_records.proofs.Frames.{records_above, index_above}
 use Rattle.pending_calls.specs.declared.removal.Removed.{Removed}
 use Rattle.pending_calls.proofs.RemovedLemmas.{entries_below_records}
 use Rattle.offer_plan.specs.declared.plan.OfferPlan.{OfferPlan}
+use Rattle.offer_plan.specs.Plan.{Plans}
 use Rattle.offer_steps.specs.Room.{fits_behind, RoomFor, AddsBody, LabelRoom, ChoosesLabel}
 use Rattle.packed_removal.specs.ForBody.{PacksFor, LeftFor, RemovesForBody}
+use Rattle.pending_offer.proofs.Accepted.{Accepting}
 
 -- packed for a body: m entries, with k records behind them
 module _ {l : PendingFlowsConfig} {k m len : ℕ} {w b w' b' : List ℕ} {end : ℕ}
@@ -128,3 +130,23 @@ pub label_room_left : {l : PendingFlowsConfig} {k : ℕ} {w w' : List ℕ} → l
     LabelRoom l k w'
 label_room_left long room =
     record { few = room.few; bodies_few = room.bodies_few; within = omega (arith, room.within) }
+
+-- what is known once the label is chosen
+pub accepting : (w b : List ℕ) {l' : PendingFlowsConfig} {i : ℕ} {body : List ℕ} {clock : ℕ} {plan : OfferPlan}
+    {w' b' : List ℕ} {r : Removed} {a : ℕ} → (well_formed w (length b) ≡ true) × (l' ≡ limits_of w) →
+    length body ≤ (limits_of w).max_entry_size_bytes →
+    Plans w b i (length body) clock plan × ((plan.full ≡ false) × (i < 65536)) →
+    (done : RemovesForBody clock plan plan.label (length body) w b w' b' r) →
+    ChoosesLabel plan.label (records_from w' (records_at l') r.records) a →
+    Accepting w b l' i body clock plan done.unpacked r a
+accepting w b ok small plans done chosen = record {
+  ok = ok.0;
+  limits = ok.1;
+  id = plans.1.1;
+  small = small;
+  plans = plans.0;
+  room = plans.1.0;
+  removed = done.removes;
+  long = done.removes.long;
+  label = label_left w (length b) ok.0 ok.1 done chosen;
+}

@@ -49,6 +49,22 @@ pub record Refusing (w b : List ℕ) (l' : PendingFlowsConfig) (i : ℕ) (body :
   pub removed : RemovesPlanned clock plan 1024 w w₁ left
   pub long : length w₁ ≡ length w
 
+-- what is known once the bodies that the plan names are removed
+pub refusing : (w b : List ℕ) {l' : PendingFlowsConfig} {i : ℕ} {body : List ℕ} {clock : ℕ} {plan : OfferPlan}
+    {w₁ : List ℕ} {left : Removed} → (well_formed w (length b) ≡ true) × (l' ≡ limits_of w) →
+    length body ≤ (limits_of w).max_entry_size_bytes →
+    Plans w b i (length body) clock plan × (plan.full ≡ true) → RemovesPlanned clock plan 1024 w w₁ left →
+    length w₁ ≡ length w → Refusing w b l' i body clock plan w₁ left
+refusing w b ok small plans removed long = record {
+  ok = ok.0;
+  limits = ok.1;
+  small = small;
+  plans = plans.0;
+  full = plans.1;
+  removed = removed;
+  long = long;
+}
+
 module _ {w b : List ℕ} {l' : PendingFlowsConfig} {i : ℕ} {body : List ℕ} {clock : ℕ} {plan : OfferPlan}
     {w₁ : List ℕ} {left : Removed} (known : Refusing w b l' i body clock plan w₁ left) where
   legal : LegalWords w (length b)

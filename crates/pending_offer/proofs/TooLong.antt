@@ -88,7 +88,7 @@ module _ (w b : List ℕ) (ok : well_formed w (length b) ≡ true) where
   unfolding refused_size
   too_long_does i x long is =
       let same : refused_size (cache_of (table_of w) b) ≡ offered i x (cache_of (table_of w) b) = sym
-          (refused i x long) in
+      (refused i x long) in
       rw is (record {
         answer = ap (λ (o : Outcome). o.answer) same;
         holds = dropped_view ∙ ap (λ (o : Outcome). some o.cache) same;

@@ -36,7 +36,8 @@ use Rattle.pendlist_calls.specs.Steps.{figure_of, row_of, row_after, call_step, 
 -- The figures after a call.
 module _ (letter n : ℕ) (v : Option Cache) {r : FiguresAnswer}
     (answered : figures_answer r ≡ asked (λ c. tells (figures c)) v) where
-  pub row_told : {f : CacheFigures} → r ≡ Figured.At f → Told (row_of letter n (figures_record f)) ≡ row_after letter n v
+  pub row_told : {f : CacheFigures} → r ≡ Figured.At f → Told (row_of letter n (figures_record f)) ≡ row_after letter
+      n v
   unfolding row_after
   row_told {f} e = by_view v answered
     where

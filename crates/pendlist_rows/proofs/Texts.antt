@@ -29,11 +29,18 @@ record Fewest (n most k : ℕ) : Type 0 where
 places_fewest : (n tries j : ℕ) → 0 < j → (1 < j → 10 ^ (j - 1) ≤ n) → n < 10 ^ (j + tries) →
     Fewest n (j + tries) (places_from tries j n)
 unfolding places_from
-places_fewest n zero j some least hold = record { some = some; few = omega arith; hold = rw add-zero at hold; least = least }
-places_fewest n (suc tries) j some least hold = by_test (ltb n (10 ^ j)) refl (places_fewest n tries (suc j) (omega arith))
+places_fewest n zero j some least hold = record {
+  some = some;
+  few = omega arith;
+  hold = rw add-zero at hold;
+  least = least;
+}
+places_fewest n (suc tries) j some least hold = by_test (ltb n (10 ^ j)) refl
+    (places_fewest n tries (suc j) (omega arith))
   where
     by_test : (q : Bool) → ltb n (10 ^ j) ≡ q →
-        ((1 < suc j → 10 ^ (suc j - 1) ≤ n) → n < 10 ^ (suc j + tries) → Fewest n (suc j + tries) (places_from tries (suc j) n)) →
+        ((1 < suc j → 10 ^ (suc j - 1) ≤ n) → n < 10 ^ (suc j + tries) → Fewest n (suc j + tries)
+            (places_from tries (suc j) n)) →
         Fewest n (j + suc tries) (cond q j (places_from tries (suc j) n))
     by_test true e next = record { some = some; few = omega arith; hold = ltb-true n (10 ^ j) e; least = least }
     by_test false e next =
@@ -58,7 +65,8 @@ digits_are j zero n more hold least h = absurd (omega arith)
 digits_are zero (suc turns) n more hold least h = by_test (n / 10 == 0) refl
   where
     by_test : (q : Bool) → (n / 10 == 0) ≡ q →
-        (cond q (digit_glyph false (n % 10) ∷ more) (digits_onto turns 10 false (n / 10) (digit_glyph false (n % 10) ∷ more)))
+        (cond q (digit_glyph false (n % 10) ∷ more) (digits_onto turns 10 false (n / 10)
+            (digit_glyph false (n % 10) ∷ more)))
         ≡ last_digits 1 n ++ more
     by_test true e = ap (λ (d : ℕ). d ∷ more) (glyph (n % 10) (omega arith))
     by_test false e = absurd (omega (arith, some_left n e))
@@ -69,7 +77,8 @@ digits_are (suc j) (suc turns) n more hold least h =
         (n / 10 < 10 ^ suc j → (0 < j → 10 ^ j ≤ n / 10) → j < turns →
         digits_onto turns 10 false (n / 10) (digit_glyph false (n % 10) ∷ more)
         ≡ last_digits (suc j) (n / 10) ++ (digit_glyph false (n % 10) ∷ more)) →
-        (cond q (digit_glyph false (n % 10) ∷ more) (digits_onto turns 10 false (n / 10) (digit_glyph false (n % 10) ∷ more)))
+        (cond q (digit_glyph false (n % 10) ∷ more) (digits_onto turns 10 false (n / 10)
+            (digit_glyph false (n % 10) ∷ more)))
         ≡ last_digits (suc (suc j)) n ++ more
     by_test true e next =
         let large : 10 ^ suc j ≤ n = least (omega arith) in
@@ -77,12 +86,14 @@ digits_are (suc j) (suc turns) n more hold least h =
     by_test false e next =
         let large : 10 ^ suc j ≤ n = least (omega arith) in
         next (omega (arith, pow-suc 10 (suc j))) (λ _. omega (arith, pow-suc 10 j, large)) (omega arith)
-        ∙ rw (glyph (n % 10) (omega arith)) (sym (append_assoc (last_digits (suc j) (n / 10)) ((48 + n % 10) ∷ []) more))
+        ∙ rw (glyph (n % 10) (omega arith)) (sym (append_assoc (last_digits (suc j) (n / 10)) ((48 + n % 10) ∷ [])
+            more))
 
 all_digits : (n turns k : ℕ) → 20 ≤ turns → Fewest n 20 k → digits_onto turns 10 false n [] ≡ last_digits k n
 all_digits n turns zero h fewest = absurd (omega (arith, fewest.some))
 all_digits n turns (suc k) h fewest =
-    digits_are k turns n [] fewest.hold (λ more. simp unary_clauses at (fewest.least (omega arith))) (omega (arith, fewest.few))
+    digits_are k turns n [] fewest.hold (λ more. simp unary_clauses at (fewest.least (omega arith)))
+        (omega (arith, fewest.few))
     ∙ append-nil (last_digits (suc k) n)
 
 -- what `itoa` writes
@@ -116,7 +127,8 @@ module _ {text more : List ℕ} {most most' at r r' : ℕ} {out out' out'' : Lis
   }
 
 -- a blank, then the digits
-pub number_put : (n at : ℕ) {digits out out' : List ℕ} → n < 18446744073709551616 → digits ≡ decimal n → length digits ≤ 20 →
+pub number_put : (n at : ℕ) {digits out out' : List ℕ} → n < 18446744073709551616 → digits ≡ decimal n → length digits
+    ≤ 20 →
     at + 21 ≤ length out → out' ≡ put_at (at + 1) digits (set out at 32) →
     Puts (number_text n) 21 at out (at + 1 + length digits) out'
 number_put n at {digits} {out} {out'} fits right few h is =
@@ -149,7 +161,8 @@ module _ {numbers : List ℕ} {at i end : ℕ} {out₀ out : List ℕ} (inv : Nu
   pub one_put : {r : ℕ} {out' : List ℕ} → i < length numbers → length out' ≡ length out →
       Puts (number_text (get_or numbers i 0)) 21 end out r out' → NumbersPut numbers at (i + 1) r out₀ out'
   one_put {r} {out'} h e next =
-      let longer : numbers_text (take (i + 1) numbers) ≡ numbers_text (take i numbers) ++ number_text (get_or numbers i 0) =
+      let longer : numbers_text (take (i + 1) numbers) ≡ numbers_text (take i numbers) ++ number_text
+          (get_or numbers i 0) =
       rw (add-one, take-suc numbers i 0 h) (numbers_end (take i numbers) (get_or numbers i 0)) in
       let both : Puts _ (21 * i + 21) at out₀ r out' = put_more inv.puts next in
       record {

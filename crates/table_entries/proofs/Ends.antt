@@ -30,7 +30,7 @@ module _ (w : List ℕ) (entries : ℕ) where
     last_end_lem =
         let z : entries ≡ suc (entries - 1) = omega arith in
         rw is (sym (last_of w entries_at (entries - 1)) ∙ ap (λ (k : ℕ). last_end (entries_from w entries_at k))
-            (sym z))
+        (sym z))
 
     pub last_fits : last_end (entries_from w entries_at entries) ≤ 18446744073709551615 → e.place + e.len < 2 ^ 64
     last_fits few = omega (arith, last_end_lem)

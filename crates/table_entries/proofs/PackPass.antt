@@ -56,7 +56,7 @@ pub record PackedSoFar (keep : List Entry → List Entry) (whole : List Entry) (
 
 pub none_packed : (keep : List Entry → List Entry) (entries : ℕ) (w b : List ℕ) →
     entries_at + entry_words * entries ≤ length w → places_legal 0 (length b) (entries_from w entries_at entries) ≡
-        true →
+    true →
     PackedSoFar keep (keep (entries_from w entries_at entries)) entries w b w b (record { from = 0; to = 0; len = 0 })
     0 entries entries_at entries_at
 unfolding entries_from

@@ -5,7 +5,7 @@ use Rattle.pending_offer.specs.Promises.{body_of}
 use Rattle.offer_steps.specs.Room.{AddsBody}
 use Rattle.pending_offer.proofs.Left.{none_handed}
 use Rattle.pending_offer.proofs.Offered.{size_within}
-use Rattle.pending_offer.proofs.ForBody.{left_with, room_left, adds_left, label_left, label_room_left}
+use Rattle.pending_offer.proofs.ForBody.{left_with, room_left, adds_left, label_room_left, accepting}
 use Rattle.pending_offer.proofs.Labels.{label_room}
 use Rattle.pending_offer.proofs.Accepted.{Accepting, total_fits}
 use Rattle.pending_offer.proofs.Accepts.{accepted_room, accepted_fewer, records_fit, entries_fit}
@@ -35,114 +35,42 @@ choose_label-label-requires c = let done = c.remove_for_body-left.ensures in
     done.removes c.requires.bytes_value.1 done.removes.long)
 
 pub add_body-requires : goal.add_body-requires
-add_body-requires c = let known : Accepting c.args.words.now c.args.bytes.now c.args.limits c.args.id c.args.body.now
-    c.args.clock
-    c.args.plan c.remove_for_body-left.ensures.unpacked c.remove_for_body-left.result c.choose_label-label.result =
-    let done = c.remove_for_body-left.ensures in
-    record {
-      ok = c.requires.bytes_value.0;
-      limits = c.requires.bytes_value.1;
-      id = c.requires.plans.1.1;
-      small = c.requires.figures_value.1;
-      plans = c.requires.plans.0;
-      room = c.requires.plans.1.0;
-      removed = done.removes;
-      long = done.removes.long;
-      label = label_left _ _ c.requires.bytes_value.0 c.requires.bytes_value.1 done c.choose_label-label.ensures;
-    } in
+add_body-requires c = let known = accepting c.args.words.now c.args.bytes.now c.requires.bytes_value
+    c.requires.figures_value.1
+    c.requires.plans c.remove_for_body-left.ensures c.choose_label-label.ensures in
     let removed_long = c.remove_for_body-left.auto.words ∙ sym c.remove_for_body-left.ensures.removes.long in
     let done = c.remove_for_body-left in
     room_left c.args.body.now (accepted_room known) removed_long c.remove_for_body-left.auto.bytes
     (left_with c.requires.bytes_value.1 done.ensures.left)
 
 pub overflow_sub-drops : goal.overflow_sub-drops
-overflow_sub-drops c = let known : Accepting c.args.words.now c.args.bytes.now c.args.limits c.args.id c.args.body.now
-    c.args.clock
-    c.args.plan c.remove_for_body-left.ensures.unpacked c.remove_for_body-left.result c.choose_label-label.result =
-    let done = c.remove_for_body-left.ensures in
-    record {
-      ok = c.requires.bytes_value.0;
-      limits = c.requires.bytes_value.1;
-      id = c.requires.plans.1.1;
-      small = c.requires.figures_value.1;
-      plans = c.requires.plans.0;
-      room = c.requires.plans.1.0;
-      removed = done.removes;
-      long = done.removes.long;
-      label = label_left _ _ c.requires.bytes_value.0 c.requires.bytes_value.1 done c.choose_label-label.ensures;
-    } in
+overflow_sub-drops c = let known = accepting c.args.words.now c.args.bytes.now c.requires.bytes_value
+    c.requires.figures_value.1
+    c.requires.plans c.remove_for_body-left.ensures c.choose_label-label.ensures in
     accepted_fewer known c.held_bodies-held.ensures
 
 pub overflow_add-total : goal.overflow_add-total
-overflow_add-total c = let known : Accepting c.args.words.now c.args.bytes.now c.args.limits c.args.id c.args.body.now
-    c.args.clock
-    c.args.plan c.remove_for_body-left.ensures.unpacked c.remove_for_body-left.result c.choose_label-label.result =
-    let done = c.remove_for_body-left.ensures in
-    record {
-      ok = c.requires.bytes_value.0;
-      limits = c.requires.bytes_value.1;
-      id = c.requires.plans.1.1;
-      small = c.requires.figures_value.1;
-      plans = c.requires.plans.0;
-      room = c.requires.plans.1.0;
-      removed = done.removes;
-      long = done.removes.long;
-      label = label_left _ _ c.requires.bytes_value.0 c.requires.bytes_value.1 done c.choose_label-label.ensures;
-    } in
+overflow_add-total c = let known = accepting c.args.words.now c.args.bytes.now c.requires.bytes_value
+    c.requires.figures_value.1
+    c.requires.plans c.remove_for_body-left.ensures c.choose_label-label.ensures in
     record { fits = total_fits known }
 
 pub overflow_add-left : goal.overflow_add-left
-overflow_add-left c = let known : Accepting c.args.words.now c.args.bytes.now c.args.limits c.args.id c.args.body.now
-    c.args.clock
-    c.args.plan c.remove_for_body-left.ensures.unpacked c.remove_for_body-left.result c.choose_label-label.result =
-    let done = c.remove_for_body-left.ensures in
-    record {
-      ok = c.requires.bytes_value.0;
-      limits = c.requires.bytes_value.1;
-      id = c.requires.plans.1.1;
-      small = c.requires.figures_value.1;
-      plans = c.requires.plans.0;
-      room = c.requires.plans.1.0;
-      removed = done.removes;
-      long = done.removes.long;
-      label = label_left _ _ c.requires.bytes_value.0 c.requires.bytes_value.1 done c.choose_label-label.ensures;
-    } in
+overflow_add-left c = let known = accepting c.args.words.now c.args.bytes.now c.requires.bytes_value
+    c.requires.figures_value.1
+    c.requires.plans c.remove_for_body-left.ensures c.choose_label-label.ensures in
     record { fits = records_fit known }
 
 pub overflow_add-left-2 : goal.overflow_add-left-2
-overflow_add-left-2 c = let known : Accepting c.args.words.now c.args.bytes.now c.args.limits c.args.id
-    c.args.body.now c.args.clock
-    c.args.plan c.remove_for_body-left.ensures.unpacked c.remove_for_body-left.result c.choose_label-label.result =
-    let done = c.remove_for_body-left.ensures in
-    record {
-      ok = c.requires.bytes_value.0;
-      limits = c.requires.bytes_value.1;
-      id = c.requires.plans.1.1;
-      small = c.requires.figures_value.1;
-      plans = c.requires.plans.0;
-      room = c.requires.plans.1.0;
-      removed = done.removes;
-      long = done.removes.long;
-      label = label_left _ _ c.requires.bytes_value.0 c.requires.bytes_value.1 done c.choose_label-label.ensures;
-    } in
+overflow_add-left-2 c = let known = accepting c.args.words.now c.args.bytes.now c.requires.bytes_value
+    c.requires.figures_value.1
+    c.requires.plans c.remove_for_body-left.ensures c.choose_label-label.ensures in
     record { fits = entries_fit known }
 
 pub settle-requires : goal.settle-requires
-settle-requires c = let known : Accepting c.args.words.now c.args.bytes.now c.args.limits c.args.id c.args.body.now
-    c.args.clock
-    c.args.plan c.remove_for_body-left.ensures.unpacked c.remove_for_body-left.result c.choose_label-label.result =
-    let done = c.remove_for_body-left.ensures in
-    record {
-      ok = c.requires.bytes_value.0;
-      limits = c.requires.bytes_value.1;
-      id = c.requires.plans.1.1;
-      small = c.requires.figures_value.1;
-      plans = c.requires.plans.0;
-      room = c.requires.plans.1.0;
-      removed = done.removes;
-      long = done.removes.long;
-      label = label_left _ _ c.requires.bytes_value.0 c.requires.bytes_value.1 done c.choose_label-label.ensures;
-    } in
+settle-requires c = let known = accepting c.args.words.now c.args.bytes.now c.requires.bytes_value
+    c.requires.figures_value.1
+    c.requires.plans c.remove_for_body-left.ensures c.choose_label-label.ensures in
     let removed_long = c.remove_for_body-left.auto.words ∙ sym c.remove_for_body-left.ensures.removes.long in
     let as_long = c.add_body.auto.words ∙ c.remove_for_body-left.auto.words in
     let adds = adds_left _ (accepted_room known) removed_long c.remove_for_body-left.auto.bytes
@@ -150,20 +78,8 @@ settle-requires c = let known : Accepting c.args.words.now c.args.bytes.now c.ar
     accepted_settles known as_long adds
 
 pub returns : goal.returns
-returns c = let known : Accepting c.args.words.now c.args.bytes.now c.args.limits c.args.id c.args.body.now c.args.clock
-    c.args.plan c.remove_for_body-left.ensures.unpacked c.remove_for_body-left.result c.choose_label-label.result =
-    let done = c.remove_for_body-left.ensures in
-    record {
-      ok = c.requires.bytes_value.0;
-      limits = c.requires.bytes_value.1;
-      id = c.requires.plans.1.1;
-      small = c.requires.figures_value.1;
-      plans = c.requires.plans.0;
-      room = c.requires.plans.1.0;
-      removed = done.removes;
-      long = done.removes.long;
-      label = label_left _ _ c.requires.bytes_value.0 c.requires.bytes_value.1 done c.choose_label-label.ensures;
-    } in
+returns c = let known = accepting c.args.words.now c.args.bytes.now c.requires.bytes_value c.requires.figures_value.1
+    c.requires.plans c.remove_for_body-left.ensures c.choose_label-label.ensures in
     let removed_long = c.remove_for_body-left.auto.words ∙ sym c.remove_for_body-left.ensures.removes.long in
     let as_long = c.add_body.auto.words ∙ c.remove_for_body-left.auto.words in
     let adds = adds_left _ (accepted_room known) removed_long c.remove_for_body-left.auto.bytes

@@ -1,5 +1,5 @@
 use Rattle.pending_offer.proofs.Left.{none_handed}
-use Rattle.pending_offer.proofs.Refused.{Refusing, refused_settles, refused_fewer, drops_fit, refused_does}
+use Rattle.pending_offer.proofs.Refused.{refusing, refused_settles, refused_fewer, drops_fit, refused_does}
 use Rattle.pending_offer.proofs.offering.turn_down.Goals as goal
 
 pub remove_planned-left-requires : goal.remove_planned-left-requires
@@ -15,58 +15,25 @@ remove_planned-left-requires c = let plans = c.requires.plans.0 in
     }
 
 pub overflow_sub-drops : goal.overflow_sub-drops
-overflow_sub-drops c = let known : Refusing c.args.words.now c.args.bytes.now c.args.limits c.args.id c.args.body.now
-    c.args.clock c.args.plan
-    c.remove_planned-left.new.words c.remove_planned-left.result = record {
-      ok = c.requires.bytes_value.0;
-      limits = c.requires.bytes_value.1;
-      small = c.requires.figures_value.1;
-      plans = c.requires.plans.0;
-      full = c.requires.plans.1;
-      removed = c.remove_planned-left.ensures;
-      long = c.remove_planned-left.auto.words;
-    } in
+overflow_sub-drops c = let known = refusing c.args.words.now c.args.bytes.now c.requires.bytes_value
+    c.requires.figures_value.1
+    c.requires.plans c.remove_planned-left.ensures c.remove_planned-left.auto.words in
     refused_fewer known c.held_bodies-held.ensures
 
 pub overflow_add-drops : goal.overflow_add-drops
-overflow_add-drops c = let known : Refusing c.args.words.now c.args.bytes.now c.args.limits c.args.id c.args.body.now
-    c.args.clock c.args.plan
-    c.remove_planned-left.new.words c.remove_planned-left.result = record {
-      ok = c.requires.bytes_value.0;
-      limits = c.requires.bytes_value.1;
-      small = c.requires.figures_value.1;
-      plans = c.requires.plans.0;
-      full = c.requires.plans.1;
-      removed = c.remove_planned-left.ensures;
-      long = c.remove_planned-left.auto.words;
-    } in
+overflow_add-drops c = let known = refusing c.args.words.now c.args.bytes.now c.requires.bytes_value
+    c.requires.figures_value.1
+    c.requires.plans c.remove_planned-left.ensures c.remove_planned-left.auto.words in
     record { fits = drops_fit known c.held_bodies-held.ensures }
 
 pub settle-requires : goal.settle-requires
-settle-requires c = let known : Refusing c.args.words.now c.args.bytes.now c.args.limits c.args.id c.args.body.now
-    c.args.clock c.args.plan
-    c.remove_planned-left.new.words c.remove_planned-left.result = record {
-      ok = c.requires.bytes_value.0;
-      limits = c.requires.bytes_value.1;
-      small = c.requires.figures_value.1;
-      plans = c.requires.plans.0;
-      full = c.requires.plans.1;
-      removed = c.remove_planned-left.ensures;
-      long = c.remove_planned-left.auto.words;
-    } in
+settle-requires c = let known = refusing c.args.words.now c.args.bytes.now c.requires.bytes_value
+    c.requires.figures_value.1
+    c.requires.plans c.remove_planned-left.ensures c.remove_planned-left.auto.words in
     refused_settles known
 
 pub returns : goal.returns
-returns c = let known : Refusing c.args.words.now c.args.bytes.now c.args.limits c.args.id c.args.body.now
-    c.args.clock c.args.plan
-    c.remove_planned-left.new.words c.remove_planned-left.result = record {
-      ok = c.requires.bytes_value.0;
-      limits = c.requires.bytes_value.1;
-      small = c.requires.figures_value.1;
-      plans = c.requires.plans.0;
-      full = c.requires.plans.1;
-      removed = c.remove_planned-left.ensures;
-      long = c.remove_planned-left.auto.words;
-    } in
+returns c = let known = refusing c.args.words.now c.args.bytes.now c.requires.bytes_value c.requires.figures_value.1
+    c.requires.plans c.remove_planned-left.ensures c.remove_planned-left.auto.words in
     refused_does known c.held_bodies-held.ensures c.requires.figures_value.0
     c.settle.ensures

@@ -7,7 +7,8 @@ pub loop-reads-init : goal.loop-reads-init
 loop-reads-init g c = search (input_begins, rules)
 
 pub write_rows-requires : goal.write_rows-requires
-write_rows-requires g c = rows_handed c.loop-reads.invariant.0 c.read_more-n.ensures c.take_turn-turn.ensures (search rules)
+write_rows-requires g c = rows_handed c.loop-reads.invariant.0 c.read_more-n.ensures c.take_turn-turn.ensures
+    (search rules)
 
 pub returns-then-not-write_rows : goal.returns-then-not-write_rows
 returns-then-not-write_rows g c = write_failed c.loop-reads.invariant.0 c.read_more-n.ensures c.take_turn-turn.ensures

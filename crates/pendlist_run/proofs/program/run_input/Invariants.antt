@@ -5,7 +5,8 @@ use Rattle.pendlist_run.proofs.Inputs.{InputAhead}
 use Rattle.pendlist_run.proofs.program.run_input.Given as goal
 
 abbrev pub invariant-loop-reads : goal.invariant-loop-reads
-invariant-loop-reads g l = (InputAhead (areas_of l.initial.words l.initial.bytes) l.kept l.buffer l.opened (areas_of l.words l.bytes))
+invariant-loop-reads g l = (InputAhead (areas_of l.initial.words l.initial.bytes) l.kept l.buffer l.opened
+    (areas_of l.words l.bytes))
     × (length l.buffer ≡ 4096) × (length l.out ≡ 438272)
 
 abbrev pub decreases-loop-reads : goal.decreases-loop-reads

@@ -13,6 +13,6 @@ returns-then-test-entry-2 c = search (not_aged, not-true, rules)
 pub returns : goal.returns
 returns c =
     elim c.if-not-test.branch [
-      then-not-test+else-test-entry-2 v ↦ search (label_aged, not-true, rules)
-    | else-not-test v ↦ search (all_aged, not-false, rules)
+      | then-not-test+else-test-entry-2 v ↦ search (label_aged, not-true, rules)
+      | else-not-test v ↦ search (all_aged, not-false, rules)
     ]

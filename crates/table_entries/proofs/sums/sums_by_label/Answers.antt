@@ -9,8 +9,8 @@ loop-left-init c = search (none_summed, rules)
 pub loop-left-preserved : goal.loop-left-preserved
 loop-left-preserved c =
     elim c.if-stays.branch [
-      then-stays v ↦ rw v.sums-is (search (entry_summed, rules))
-    | else-stays v ↦ rw v.sums-is (search (entry_passed, rules))
+      | then-stays v ↦ rw v.sums-is (search (entry_summed, rules))
+      | else-stays v ↦ rw v.sums-is (search (entry_passed, rules))
     ]
 
 pub returns : goal.returns
