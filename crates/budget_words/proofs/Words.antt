@@ -63,7 +63,7 @@ limit_back Limit.FieldPayloadBytes configured attempted = refl
 
 excess_back : (x : Exceeded)
     → exceeded_of (get_or (words_of_exceeded x) 0 0) (get_or (words_of_exceeded x) 1 0)
-        (get_or (words_of_exceeded x) 2 0) ≡ x
+    (get_or (words_of_exceeded x) 2 0) ≡ x
 excess_back None = refl
 excess_back (Recorded e) = limit_back e.limit e.configured e.attempted
 

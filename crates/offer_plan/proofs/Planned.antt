@@ -79,7 +79,7 @@ module _ (w b : List ℕ) (id len clock : ℕ) where
   abbrev plan_at : List Template → Plan
   plan_at us =
       plan_of l (length (keep (λ x. not (old x)) (bodies_of id us))) (length (without id us))
-          (length (kept_of lives us))
+      (length (kept_of lives us))
 
   abbrev thin_at : ℕ → Plan → ℕ → List Body → List Body
   thin_at m p j bs =

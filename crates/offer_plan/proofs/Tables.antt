@@ -105,7 +105,7 @@ module _ (w b : List ℕ) (ok : well_formed w (length b) ≡ true) where
 
   pub held_counted : (clock : ℕ) →
       Counted b es (λ x. not (expired (limits_of w).ttl clock x))
-          (summed (live_test (limits_of w).ttl clock) false zeros
+      (summed (live_test (limits_of w).ttl clock) false zeros
       es) held
   held_counted clock =
       all_map (λ r. r.label < 1024) _

@@ -160,7 +160,7 @@ module _ (w : List ℕ) (n : ℕ) (ok : well_formed w n ≡ true) where
             ∙ total_all (sym (ap (λ (g : HeaderFigures). g.chance) is) ∙ none) in
             rw many
             (removal_done everything (records_at (limits_of w)) (held_count w + chance_count w) (entry_count w) apart
-                zeros w
+            zeros w
             w w' (counted es) left
             (record { entries = entry_count w; bytes = f.total; records = remain; apart = bodies })
             (entries_below_records w n legal, records_within w n legal)

@@ -35,7 +35,7 @@ module _ (w b : List ℕ) {v : Bool} (tested : v ≡ well_formed w (length b)) w
 
   pub performed : (f : Cache → Outcome) {w' b' : List ℕ} {r : Answer} → v ≡ true
       → Does f (cache_of (table_of w) b) (areas_of w b) r (areas_of w' b') → Performs f (areas_of w b) r
-          (areas_of w' b')
+      (areas_of w' b')
   performed f h d = record {
     answer = rw (view_some h) d.answer;
     holds = rw (view_some h) d.holds;

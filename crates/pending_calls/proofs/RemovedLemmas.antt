@@ -35,7 +35,7 @@ TiedRowsApart a p k m w = TiedApart a (records_from w p k) (entries_from w entri
 
 module _ {q : StayTest} {p k m a : ℕ} {skip w w' : List ℕ} {r : Removed} (tied : TiedRows p k m w)
     (most : ℕ) (placed : Placed 0 most (entries_from w entries_at m)) (few_records : k ≤ 1024)
-        (few_entries : m ≤ sum_most)
+    (few_entries : m ≤ sum_most)
     (short : most ≤ len_most) (done : Removes q p k m a skip w w' r) where
   abbrev es : List Entry
   es = entries_from w entries_at m
@@ -98,7 +98,7 @@ module _ (w : List ℕ) (n : ℕ) (legal : LegalWords w n) where
   pub rows_tied : TiedRows from count (entry_count w) w
   rows_tied =
       subst (λ (rs : List TemplateRecord). Tied rs (entries_from w entries_at (entry_count w))
-          (index_from w from count))
+      (index_from w from count))
       (take-append-drop (held_count w) (records w)) (words_tied w n legal)
 
   pub rows_placed : Placed 0 (limits_of w).max_total_bytes (entries_from w entries_at (entry_count w))

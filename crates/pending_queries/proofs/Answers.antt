@@ -9,7 +9,6 @@ use borrow.Author.Tests.{le-leb, lt-leb}
 use Rattle.config.specs.declared.PendingFlowsConfig.{PendingFlowsConfig}
 use Rattle.config.specs.Limits.{header_words}
 use Rattle.table_watch.specs.declared.Sought.{Sought}
-use Rattle.table_watch.specs.declared.Sought.TheVariants as Sought
 use Rattle.table_watch.specs.declared.LabelSeen.{LabelSeen}
 use Rattle.table_watch.specs.declared.TableSeen.{TableSeen}
 use Rattle.table_watch.specs.declared.TableSeen.TheVariants as Seen
@@ -72,7 +71,7 @@ module _ (l : PendingFlowsConfig) (len live : ℕ) where
 -- tested, and l the limits that were read.
 module _ (w b : List ℕ) (id len clock : ℕ) {x : TableSeen} {s : LabelSeen} {l : PendingFlowsConfig} {v : Bool}
     (tested : x ≡ examined w (length b) (Sought.Live id clock)) (seen : x ≡ Seen.WellFormed s)
-        (limits : l ≡ limits_of w)
+    (limits : l ≡ limits_of w)
     (is : v ≡ accepts_with l len s.live) where
   ok : well_formed w (length b) ≡ true
   ok = seen_legal w b (Sought.Live id clock) tested seen

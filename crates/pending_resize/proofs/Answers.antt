@@ -58,7 +58,7 @@ module _ (l : PendingFlowsConfig) (w b : List ℕ) {v : Bool} (tested : v ≡ we
       unfolding resized
       resize_refused {n} is =
           let number_is : config_number l (length b) (length w) ≡ refusal_number n = sym answered ∙ ap answer_number
-              is in
+          is in
           record {
             performs = record {
               answer = rw (cached, number_is, ne_eqb (refusal_number n) 0 (refusal_some n));

@@ -56,7 +56,7 @@ module _ (w b : List ℕ) (n : ℕ) (t : TemplateRecord) (ok : well_formed w (le
       let legal = words_say w (length b) ok in
       let right : All (LegalRecord (limits_of w) (table_of w).entries) ((table_of w).held ++ (t ∷ [])) =
       subst (λ (rs : List TemplateRecord). All (LegalRecord (limits_of w) (table_of w).entries)
-          ((table_of w).held ++ rs))
+      ((table_of w).held ++ rs))
       chance.handed legal.table_legal_lem.records_legal in
       omega (
         arith,

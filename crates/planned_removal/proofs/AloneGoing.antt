@@ -73,7 +73,7 @@ module _ (w : List ℕ) (plan : OfferPlan) {f : HeaderFigures} {l : PendingFlows
         let held : (table_of w).held ≡ records_from w (records_at (limits_of w)) (held_count w) =
         first_records w (records_at (limits_of w)) (held_count w) (chance_count w) in
         let label : r ≡ first_label (table_of w).held = (rw (from, limits, figures) at is) ∙ ap first_label (sym held)
-            in
+        in
         let one : skipping zeros (take 1 (table_of w).held) ≡ set zeros r skip_all =
         first_skipped (table_of w).held ∙ ap (λ (j : ℕ). set zeros j skip_all) (sym label) in
         let long = length-set zeros r skip_all in

@@ -53,7 +53,7 @@ module _ (b : List ℕ) (es : List Entry) where
   pub evictions_alike : (room : ℕ) (sizes : List ℕ) (rs : List TemplateRecord) (total : ℕ) →
       All (λ r. get_or sizes r.label 0 ≡ sum_bodies size (bodies_at b r.label es)) rs →
       total ≡ byte_total (templates_at b es rs) → evictions_of room sizes total rs ≡ evictions room 0
-          (templates_at b es rs)
+      (templates_at b es rs)
   unfolding evictions_of evictions
   evictions_alike room sizes [] total sized is = refl
   evictions_alike room sizes (r ∷ rs) total sized is =

@@ -43,7 +43,7 @@ module _ (l : PendingFlowsConfig) (w skip₀ : List ℕ) (p n c m : ℕ) where
       leaving ≡ n - l.max_pending_flows → skip₂ ≡ skipping skip₁ (records_from w p leaving) →
       skip₃ ≡ skipping skip₂ (records_from w (p + record_words * n) c) →
       skip₃ ≡ cut_skips l (records_from w p n) (records_from w (p + record_words * n) c) (entries_from w entries_at m)
-          skip₀
+      skip₀
   unfolding cut_skips
   cut_skips_lem small counted over beyond first last =
       let leaving = records_take w p (n - l.max_pending_flows) n (omega arith) in

@@ -46,7 +46,7 @@ module _ (kept : List ℕ) where
     where
       by_count : (t : Bool) → remains kept r ≡ t →
           (get_or (places (at + 1) rs) i nowhere < nowhere → Found (at + 1) rs i
-              (get_or (places (at + 1) rs) i nowhere)) →
+          (get_or (places (at + 1) rs) i nowhere)) →
           (get_or (places at rs) i nowhere < nowhere → Found at rs i (get_or (places at rs) i nowhere)) →
           get_or (places (cond t (at + 1) at) rs) i nowhere < nowhere →
           Found at (r ∷ rs) (suc i) (get_or (places (cond t (at + 1) at) rs) i nowhere)
@@ -105,7 +105,7 @@ module _ (kept : List ℕ) where
 -- keys that go with their records rise along the new positions
 remapped_rises : (rs rs' : List TemplateRecord) (ps : List ℕ) → ((i : ℕ) → i < length rs →
     get_or ps i nowhere < nowhere → (get_or ps i nowhere < length rs') ×
-        (key_at rs' (get_or ps i nowhere) ≡ key_at rs i)) →
+    (key_at rs' (get_or ps i nowhere) ≡ key_at rs i)) →
     (low low' : ℕ) (is : List ℕ) → low' ≤ low → index_rises rs low is ≡ true → index_rises rs' low' (remapped ps is)
     ≡ true
 unfolding remapped

@@ -72,7 +72,7 @@ module _ (kept : List ℕ) (rs : List TemplateRecord) where
       by_sum : (t : Bool) → eqb (get_or kept k 0) 0 ≡ t → (has_label k rs ≡ true →
           (least_free kept (k + 1) n < k + 1 + n) × (get_or kept (least_free kept (k + 1) n) 0 ≡ 0)) →
           (cond t k (least_free kept (k + 1) n) < k + suc n) ×
-              (get_or kept (cond t k (least_free kept (k + 1) n)) 0 ≡ 0)
+          (get_or kept (cond t k (least_free kept (k + 1) n)) 0 ≡ 0)
       by_sum true e f = (omega arith, eqb-true (get_or kept k 0) 0 e)
       by_sum false e f =
           let d = eqb-false (get_or kept k 0) 0 e in

@@ -59,7 +59,7 @@ module _ {w : List ℕ} {label from records place p left : ℕ} (inv : PlaceSoug
 -- what is known of each record is known of the one at its place, which has the label
 pub place_has : (P : TemplateRecord → Type 0) (label : ℕ) (w : List ℕ) (p k : ℕ) → All P (records_from w p k) →
     place_of label (records_from w p k) < k → let r = record_at w
-        (p + record_words * place_of label (records_from w p k)) in
+    (p + record_words * place_of label (records_from w p k)) in
     P r × (label ≡ r.label)
 unfolding place_of records_from
 place_has P label w p zero a h = absurd (omega arith)

@@ -42,7 +42,7 @@ apart_is w p k at h =
     (sym (ap (λ (i : ℕ). without_at i (records_from w p at
     ++ (record_at w q ∷ records_from w (p + record_words * (at + 1)) (k - 1 - at)))) (sym (length_records w p at))
     ∙ without_between (records_from w p at) (record_at w q) (records_from w (p + record_words * (at + 1))
-        (k - 1 - at))))
+    (k - 1 - at))))
 
 pub passes_take : (p k at n : ℕ) (w w' w'' : List ℕ) (r : TemplateRecord) → at < k →
     r ≡ record_at w (p + record_words * at) → MovesUp p k at w w' → ClosesIndex p k (positions_but 0 at k) w' w'' →

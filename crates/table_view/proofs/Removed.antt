@@ -123,5 +123,5 @@ module _ (q : StayTest) (skip : List ℕ) {rs : List TemplateRecord} {es : List 
       closed_apart a (label_counts stay) stay h
       (all_swept (λ e. has_label e.label rs ≡ true) q skip es h.labels_known)
       (label_counts_lem stay (omega (arith, length_swept q skip es))
-          (all_swept (λ e. e.len ≤ len_most) q skip es short))
+      (all_swept (λ e. e.len ≤ len_most) q skip es short))
       rises long

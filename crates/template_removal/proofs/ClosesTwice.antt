@@ -72,7 +72,7 @@ module _ (first second : List ℕ) where
 
       by_test : (t : Bool) → remains first r ≡ t →
           Twice (n + 1) m' rs (get_or (positions first (n + 1) rs) i nowhere)
-              (get_or (positions second m' rs) i nowhere) →
+          (get_or (positions second m' rs) i nowhere) →
           Twice n m' rs (get_or (positions first n rs) i nowhere) (get_or (positions second m' rs) i nowhere) →
           Twice n m (r ∷ rs) (get_or (positions first (cond t (n + 1) n) rs) i nowhere)
           (get_or (positions second m' rs) i nowhere)

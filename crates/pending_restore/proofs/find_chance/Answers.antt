@@ -1,7 +1,3 @@
-use Prim.Native.Nat.{◌+◌, ◌*◌, ◌≤◌}
-use lib.ListN.{length}
-use Rattle.config.specs.Limits.{record_words}
-use Rattle.table.specs.Layout.{held_count}
 use native.Mathlib.Omega.{arith}
 use borrow.Author.Rules.{rules}
 use Rattle.pending_flows.proofs.Questions.{header_within, bodies_few}

@@ -15,8 +15,11 @@ pub records_at-from-requires : goal.records_at-from-requires
 records_at-from-requires c = search (bodies_few, rules)
 
 pub overflow_cast-less : goal.overflow_cast-less
-overflow_cast-less c = omega (arith, count_small _ c.args.bytes.now _ _ c.requires.bytes_value c.requires.n_nonzero.0
-    c.requires.n_nonzero.1)
+overflow_cast-less c = omega (
+  arith,
+  count_small _ c.args.bytes.now _ _ c.requires.bytes_value c.requires.n_nonzero.0
+      c.requires.n_nonzero.1,
+)
 
 pub take_back-removed-requires : goal.take_back-removed-requires
 take_back-removed-requires c = let ok = c.requires.bytes_value in

@@ -9,8 +9,8 @@ loop-keys_left-init c = none_remapped _ _ _ _
 pub loop-keys_left-preserved : goal.loop-keys_left-preserved
 loop-keys_left-preserved c =
     elim c.if-position-lt-NOWHERE.branch [
-      then-position-lt-NOWHERE u ↦ rw (u.words-is, u.remain-is) (search (index_moved, rules))
-    | else-position-lt-NOWHERE u ↦ rw (u.words-is, u.remain-is) (search (index_dropped, rules))
+      | then-position-lt-NOWHERE u ↦ rw (u.words-is, u.remain-is) (search (index_moved, rules))
+      | else-position-lt-NOWHERE u ↦ rw (u.words-is, u.remain-is) (search (index_dropped, rules))
     ]
 
 pub returns : goal.returns

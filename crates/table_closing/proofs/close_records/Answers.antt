@@ -10,9 +10,9 @@ loop-left-init c = search (none_closed, rules)
 pub loop-left-preserved : goal.loop-left-preserved
 loop-left-preserved c =
     elim c.if-count-gt0.branch [
-      then-count-gt0 u ↦ rw (u.words-is ∙ u.put_record.ensures, u.positions-is, u.remain-is)
+      | then-count-gt0 u ↦ rw (u.words-is ∙ u.put_record.ensures, u.positions-is, u.remain-is)
           (search (record_moved, rules))
-    | else-count-gt0 u ↦ rw (u.words-is, u.positions-is, u.remain-is) (search (record_closed, rules))
+      | else-count-gt0 u ↦ rw (u.words-is, u.positions-is, u.remain-is) (search (record_closed, rules))
     ]
 
 pub returns : goal.returns

@@ -12,8 +12,12 @@ loop-left-init c = none_kept (kept_by (stays _)) _ _
 
 pub loop-left-preserved : goal.loop-left-preserved
 loop-left-preserved c = elim c.if-stays.branch [
-  | then-stays v ↦ rw (v.words-is ∙ v.move_entry.ensures ∙ ap (put_entry _ _) (sym c.entry_at-entry.ensures),
-      v.kept-is, v.bytes-is, v.to-is)
+  | then-stays v ↦ rw (
+    v.words-is ∙ v.move_entry.ensures ∙ ap (put_entry _ _) (sym c.entry_at-entry.ensures),
+    v.kept-is,
+    v.bytes-is,
+    v.to-is,
+  )
       (search (entry_kept, first_kept, rules))
   | else-stays v ↦ rw (v.words-is, v.kept-is, v.bytes-is, v.to-is) (search (entry_left_out, first_goes, rules))
 ]

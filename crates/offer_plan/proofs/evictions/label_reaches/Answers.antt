@@ -13,8 +13,8 @@ returns-then-missing-entry c = search (bytes_reached, rules)
 pub loop-left-preserved : goal.loop-left-preserved
 loop-left-preserved c =
     elim c.if-label-entry.branch [
-      then-label-entry+else-missing-entry v ↦ rw v.missing-is (search (fewer_missing, rules))
-    | else-label-entry v ↦ rw v.missing-is (search (still_missing, rules))
+      | then-label-entry+else-missing-entry v ↦ rw v.missing-is (search (fewer_missing, rules))
+      | else-label-entry v ↦ rw v.missing-is (search (still_missing, rules))
     ]
 
 pub returns : goal.returns

@@ -2,7 +2,7 @@ use mathlib.Core.Path.{◌∙◌}
 use Rattle.table.proofs.Lookups.{bodies_told}
 use Rattle.pending_flows.proofs.Questions.{bodies_few, header_within}
 use Rattle.pending_drain.proofs.AsRead.{held_room, entries_room}
-use Rattle.pending_drain.proofs.Drains.{hand_ready, Settling, settling}
+use Rattle.pending_drain.proofs.Drains.{hand_ready, settling}
 use Rattle.pending_drain.proofs.Drains.{drain_done}
 use borrow.Author.Rules.{rules}
 use Rattle.pending_drain.proofs.draining.drain_cache.Goals as goal

@@ -1,7 +1,5 @@
-use Prim.Native.Nat.{◌+◌, ◌*◌, ◌≤◌}
 use lib.ListN.{length}
 use borrow.Author.Rules.{rules}
-use Rattle.config.specs.Limits.{record_words}
 use Rattle.pending_drain.proofs.AsRead.{held_room}
 use Rattle.pending_calls.proofs.NoneRemoved.{records_inside}
 use Rattle.pending_drain.proofs.NoneTaken.{none_taken}

@@ -1,13 +1,10 @@
-use mathlib.Core.Path.{◌≡◌, sym, ◌∙◌}
-use Prim.Native.Nat.{◌+◌}
-use lib.ListN.{length}
+use mathlib.Core.Path.{sym, ◌∙◌}
 use Rattle.pending_offer.specs.Promises.{body_of}
-use Rattle.offer_steps.specs.Room.{AddsBody}
 use Rattle.pending_offer.proofs.Left.{none_handed}
 use Rattle.pending_offer.proofs.Offered.{size_within}
 use Rattle.pending_offer.proofs.ForBody.{left_with, room_left, adds_left, label_room_left, accepting}
 use Rattle.pending_offer.proofs.Labels.{label_room}
-use Rattle.pending_offer.proofs.Accepted.{Accepting, total_fits}
+use Rattle.pending_offer.proofs.Accepted.{total_fits}
 use Rattle.pending_offer.proofs.Accepts.{accepted_room, accepted_fewer, records_fit, entries_fit}
 use Rattle.pending_offer.proofs.Accepts.{accepted_settles, accepted_does}
 use Rattle.pending_offer.proofs.offering.accept.Goals as goal

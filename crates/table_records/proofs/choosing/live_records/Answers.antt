@@ -10,8 +10,8 @@ loop-left-init c = search (no_record_counted, rules)
 pub loop-left-preserved : goal.loop-left-preserved
 loop-left-preserved c =
     elim c.if-sum_of-gt0.branch [
-      then-sum_of-gt0 u ↦ rw u.counted-is (search (record_counted, rules))
-    | else-sum_of-gt0 u ↦ rw u.counted-is (search (record_passed_over, rules))
+      | then-sum_of-gt0 u ↦ rw u.counted-is (search (record_counted, rules))
+      | else-sum_of-gt0 u ↦ rw u.counted-is (search (record_passed_over, rules))
     ]
 
 pub returns : goal.returns
