@@ -1,5 +1,7 @@
 // The program `pendlist` on a long list that `oracle record-pendlist` wrote, whose table is the Rust's. A second `c`
 // ends it with `bad`.
+#![tactic(auto)]
+
 use std::io;
 
 fn main(rt: HostRuntime) {

@@ -1,15 +1,20 @@
 -- The program: how it ends, by what its reads brought.
-use Rattle.std.specs.Prelude.{◌≡◌, Bool, true, false, List, ◌++◌, ℕ, ◌≤◌, length, take}
+use Rattle.std.specs.Prelude.{◌≡◌, Bool, true, false, List, ◌++◌, ℕ, ◌≤◌, length, take, drop, Option, codes}
+use Rattle.std.specs.Io.KnownBytes.{Appends, Consumes}
 use Rattle.pending_flows.specs.View.{Areas, view}
 use Rattle.pendlist_run.specs.declared.program.Ended.{Ended}
 use Rattle.pendlist_run.specs.declared.program.Ended.TheVariants.{Input, Bad, Write, Reads}
-use Rattle.pendlist_turns.specs.Turns.{Standing, next_turn, input_turns}
+use Rattle.pendlist_texts.specs.Lists.{rows_of_text}
+use Rattle.pendlist_turns.specs.Turns.{Standing, next_turn, input_turns, joined}
 
--- A read behind the buffer's first bytes, which stay; r bytes are then there.
-pub record ReadsBehind (kept : ℕ) (buffer : List ℕ) (r : ℕ) (buffer' : List ℕ) : Type 0 where
+-- A read behind the buffer's first bytes, which stay; r bytes are then there. Where the reader's bytes are known, those
+-- behind the first ones are the next of them.
+pub record ReadsBehind (kept : ℕ) (buffer : List ℕ) (known : Option (List ℕ)) (r : ℕ) (buffer' : List ℕ)
+    (known' : Option (List ℕ)) : Type 0 where
   pub no_fewer : kept ≤ r
   pub within : r ≤ length buffer
   pub front : take kept buffer' ≡ take kept buffer
+  pub taken : Consumes known known' (drop kept (take r buffer'))
 
 -- the turns of an input, in these areas
 abbrev pub turns_in : Areas → (last : Bool) → List (List ℕ) → Standing
@@ -34,18 +39,44 @@ EndsSo Bad last bad = bad ≡ true
 EndsSo Write last bad = Unit {0}
 EndsSo Reads last bad = (last ≡ false) × (bad ≡ false)
 
+-- what holds unless a write failed
+abbrev pub UnlessWrite : Ended → Type 0 → Type 0
+UnlessWrite Input P = P
+UnlessWrite Bad P = P
+UnlessWrite Write P = Unit {0}
+UnlessWrite Reads P = P
+
 -- Carrying out an input: there are bytes that its reads brought, and the turns of these reads, and of no others, leave
--- what the areas hold.
-pub record RunsInput (a : Areas) (r : Ended) (a' : Areas) : Type 0 where
+-- what the areas hold. Where the reader's bytes are known, these are the first of them; where the writer's are known,
+-- the rows of the turns, and nothing else, are added to them.
+pub record RunsInput (a : Areas) (known held : Option (List ℕ)) (r : Ended) (a' : Areas) (known' held' : Option (List ℕ))
+    : Type 0 where
   pub reads : List (List ℕ)
   pub last : Bool
   pub holds : view a' ≡ (turns_in a last reads).after.holds
   pub ends : EndsSo r last (turns_in a last reads).after.bad
+  pub taken : Consumes known known' (joined reads)
+  pub written : UnlessWrite r (Appends held held' (turns_in a last reads).rows)
 
--- The program does so in areas of document 01's lengths.
-pub record RunsProgram (r : Ended) : Type 0 where
+-- "call answer held bytes cached dropped"
+abbrev pub header : List ℕ
+header = codes "call answer held bytes cached dropped\n"
+
+-- what holds where a list was carried out to its end, or to `bad`
+abbrev pub OfWhole : Ended → Type 0 → Type 0
+OfWhole Input P = P
+OfWhole Bad P = P
+OfWhole Write P = Unit {0}
+OfWhole Reads P = Unit {0}
+
+-- The program does so in areas of document 01's lengths, behind the header. However the list was cut into reads, what is
+-- written of all of it is the header and the rows of its lines.
+pub record RunsProgram (known held : Option (List ℕ)) (r : Ended) (known' held' : Option (List ℕ)) : Type 0 where
   pub first : Areas
   pub last : Areas
   pub bytes_long : length first.bytes ≡ 16384
   pub words_long : length first.words ≡ 4096
-  pub runs : RunsInput first r last
+  pub begun : Option (List ℕ)
+  pub begins : UnlessWrite r (Appends held begun header)
+  pub runs : RunsInput first known begun r last known' held'
+  pub table : OfWhole r (Appends held held' (header ++ rows_of_text false (joined runs.reads) first))

@@ -1,7 +1,8 @@
 // The program: reads, turns and writes.
-ghost use Rattle.std.specs.Prelude.{◌≡◌, ◌≤◌, length};
+ghost use Rattle.std.specs.Prelude.{◌≡◌, ◌≤◌, true, length, take};
+ghost use Rattle.std.specs.Io.KnownBytes.{Appends};
 ghost use Rattle.pending_flows.specs.View.{areas_of};
-ghost use Rattle.pendlist_run.specs.Program.{ReadsBehind, HandsRows, RunsInput, RunsProgram};
+ghost use Rattle.pendlist_run.specs.Program.{ReadsBehind, HandsRows, RunsInput, RunsProgram, header};
 
 use pendlist_buffer::take_turn;
 use pendlist_calls::{byte_area, word_area};
@@ -33,15 +34,25 @@ fn rows_room() -> [u8; 438272]
 // Writes the rows of a turn, and answers whether all were written.
 fn write_rows<W: Write>(writer: &mut W, out: &[u8], filled: usize) -> bool
     requires { HandsRows out.now filled }
+    ensures { result ≡ true → Appends (W.contents writer.old) (W.contents writer.new) (take filled out.now) }
 {
     writer.write_all(&out[..filled]).is_ok()
+}
+
+// Writes the table's header, and answers whether all of it was written.
+fn write_header<W: Write>(writer: &mut W) -> bool
+    ensures { result ≡ true → Appends (W.contents writer.old) (W.contents writer.new) header }
+{
+    writer
+        .write_all(b"call answer held bytes cached dropped\n")
+        .is_ok()
 }
 
 // Reads more of the input behind the first bytes of the buffer, and answers how many bytes then stand in it: no more
 // than before at the end of the input. A read that fails counts as the end.
 fn read_more<R: Read>(reader: &mut R, buffer: &mut [u8], kept: usize) -> usize
     requires { kept ≤ length buffer.old }
-    ensures { ReadsBehind kept buffer.old result buffer.new }
+    ensures { ReadsBehind kept buffer.old (R.remaining reader.old) result buffer.new (R.remaining reader.new) }
 {
     match reader.read(&mut buffer[kept..]) {
         Ok(got) => kept + got,
@@ -60,8 +71,8 @@ fn run_input<R: Read, W: Write>(
     out: &mut [u8],
 ) -> Ended
     requires { (length buffer.old ≡ 4096) × (length out.old ≡ 438272) }
-    ensures { RunsInput (areas_of words.old bytes.old) result
-        (areas_of words.new bytes.new) }
+    ensures { RunsInput (areas_of words.old bytes.old) (R.remaining reader.old) (W.contents writer.old) result
+        (areas_of words.new bytes.new) (R.remaining reader.new) (W.contents writer.new) }
 {
     let mut kept: usize = 0;
     let mut opened = false;
@@ -94,14 +105,14 @@ fn read_room() -> [u8; 4096]
 
 // Runs the program: writes the header, and carries out the list.
 pub fn run<R: Read, W: Write>(reader: &mut R, writer: &mut W) -> Ended
-    ensures { RunsProgram result }
+    ensures { RunsProgram (R.remaining reader.old) (W.contents writer.old) result
+        (R.remaining reader.new) (W.contents writer.new) }
 {
     let mut words = word_area();
     let mut bytes = byte_area();
     let mut buffer = read_room();
     let mut out = rows_room();
-    let header = b"call answer held bytes cached dropped\n";
-    if writer.write_all(header).is_err() {
+    if !write_header(writer) {
         return Ended::Write;
     }
     run_input(

@@ -215,7 +215,7 @@ module _ (bytes words : ℕ) where
       ∙ rw append_assoc (next_ahead s read (joined reads ++ rest))
 
   -- However an input is cut into reads, the rows that its turns write, and what its lines come to, are those of its
-  -- lines. Of the rows, here and up to `bad`, these are final facts, which no proof cites.
+  -- lines.
   module _ (reads : List (List ℕ)) (v : Option Cache) where
     input_carried : so_far (input_turns bytes words true reads v) ≡ carried (lines_of (joined reads)) false v
     unfolding input_turns ahead so_far more behind carried

@@ -1,5 +1,7 @@
 // The recorded calls on a cache (oracle/README.md, "Cache"): reading a row, making its call, and comparing its list
 // with the areas.
+#![tactic(auto)]
+
 mod bodies;
 mod calls;
 mod held;

@@ -1,5 +1,7 @@
 // Runs the cache on the list that `oracle record-cache` wrote, and compares after every call: the answer, the figures,
 // and, where the row lists them, the templates by recency with their bodies and the handed-out bodies, byte for byte.
+#![tactic(auto)]
+
 mod compare;
 mod replay;
 mod wrong;

@@ -4,6 +4,8 @@
 //     1 ..|LINE     what `run_line` makes of it as the first line of an input
 //     2 ..|LINE     the same, after the line `c 2 2 10 16 100`
 // where .. is `bad`, `open`, or a row of the table. The line may have any bytes but a newline.
+#![tactic(auto)]
+
 mod compare;
 
 ghost use Rattle.std.specs.Prelude.{◌≤◌, length};

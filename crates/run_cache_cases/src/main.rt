@@ -1,5 +1,7 @@
 // Runs document 01's cache cases, marked P or not, on the code. A line has the call, its answer (0 or the number, then
 // what it gives), and the figures after it: templates, bodies, bytes, cached, dropped, handed out.
+#![tactic(auto)]
+
 use config::{ConfigAnswer, PendingFlowsConfig, Ttl, config_number};
 use pending_calls::{ClearAnswer, clear};
 use pending_drain::{DrainAnswer, drain};
