@@ -80,7 +80,8 @@ read_behind kept n buffer part known known' h few long taken =
     }
 
 -- What the turns of some reads leave stands in the buffer and in the areas; none ended the list.
-pub record InputAhead (a₀ : Areas) (known₀ held₀ : Option (List ℕ)) (kept : ℕ) (buffer : List ℕ) (opened : Bool) (a : Areas)
+pub record InputAhead (a₀ : Areas) (known₀ held₀ : Option (List ℕ)) (kept : ℕ) (buffer : List ℕ) (opened : Bool)
+    (a : Areas)
     (known held : Option (List ℕ)) : Type 0 where
   pub reads : List (List ℕ)
   pub keeps : (turns_in a₀ false reads).kept ≡ take kept buffer
@@ -93,7 +94,8 @@ pub record InputAhead (a₀ : Areas) (known₀ held₀ : Option (List ℕ)) (kep
   pub taken : Consumes known₀ known (joined reads)
   pub written : Appends held₀ held (turns_in a₀ false reads).rows
 
-pub input_begins : (a : Areas) (known held : Option (List ℕ)) (buffer : List ℕ) → InputAhead a known held 0 buffer false a known held
+pub input_begins : (a : Areas) (known held : Option (List ℕ)) (buffer : List ℕ) → InputAhead a known held 0 buffer
+    false a known held
 unfolding input_turns turns_of joined
 input_begins a known held buffer = record {
   reads = [];
@@ -109,12 +111,13 @@ input_begins a known held buffer = record {
 }
 
 -- Reads whose turns end with this one.
-record TurnsEnd (a₀ : Areas) (known₀ known : Option (List ℕ)) (last : Bool) (rows : List ℕ) (t : Standing) : Type 0 where
-  reads : List (List ℕ)
-  taken : Consumes known₀ known (joined reads)
-  writes : (turns_in a₀ last reads).rows ≡ rows ++ t.rows
-  keeps : (turns_in a₀ last reads).kept ≡ t.kept
-  comes : (turns_in a₀ last reads).after ≡ t.after
+record TurnsEnd (a₀ : Areas) (known₀ known : Option (List ℕ)) (last : Bool) (rows : List ℕ) (t : Standing) : Type 0
+  where
+    reads : List (List ℕ)
+    taken : Consumes known₀ known (joined reads)
+    writes : (turns_in a₀ last reads).rows ≡ rows ++ t.rows
+    keeps : (turns_in a₀ last reads).kept ≡ t.kept
+    comes : (turns_in a₀ last reads).after ≡ t.after
 
 module _ {a₀ a : Areas} {known₀ held₀ known held : Option (List ℕ)} {kept : ℕ} {buffer : List ℕ} {opened : Bool}
     (inv : InputAhead a₀ known₀ held₀ kept buffer opened a known held) where
@@ -216,7 +219,8 @@ module _ {a₀ a : Areas} {known₀ held₀ known held : Option (List ℕ)} {kep
 
     -- all rows of the turn were written
     module _ (held' : Option (List ℕ)) (wrote : Appends held held' (take r.filled out')) where
-      rows_more : {last : Bool} (t : TurnsEnd a₀ known₀ known' last (turns_in a₀ false inv.reads).rows (turn_in buffer₁ kept n opened a)) →
+      rows_more : {last : Bool} (t : TurnsEnd a₀ known₀ known' last (turns_in a₀ false inv.reads).rows
+          (turn_in buffer₁ kept n opened a)) →
           Appends held₀ held' (turns_in a₀ last t.reads).rows
       rows_more t = rw (t.writes, ← turn.rows)
           (adds_more held₀ held held' (turns_in a₀ false inv.reads).rows (take r.filled out') inv.written wrote)
@@ -261,7 +265,8 @@ module _ {a₀ a : Areas} {known₀ held₀ known held : Option (List ℕ)} {kep
           }
 
 -- The header's write failed, and no line was carried out.
-pub header_failed : (known held held' : Option (List ℕ)) (words bytes : List ℕ) → 4096 ≡ length words → 16384 ≡ length bytes →
+pub header_failed : (known held held' : Option (List ℕ)) (words bytes : List ℕ) → 4096 ≡ length words → 16384 ≡ length
+    bytes →
     RunsProgram known held Write known held'
 unfolding input_turns turns_of joined
 header_failed known held held' words bytes w b = record {

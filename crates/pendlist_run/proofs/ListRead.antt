@@ -32,9 +32,11 @@ rows_read a false reads ended =
 -- the header, and behind it the rows of the lines that were read
 module _ (a a' : Areas) (known held begun known' held' : Option (List ℕ)) (begins : Appends held begun header) where
   all_written : (last : Bool) (reads : List (List ℕ)) → (last ≡ false → (turns_in a last reads).after.bad ≡ true) →
-      Appends begun held' (turns_in a last reads).rows → Appends held held' (header ++ rows_of_text false (joined reads) a)
+      Appends begun held' (turns_in a last reads).rows → Appends held held'
+      (header ++ rows_of_text false (joined reads) a)
   all_written last reads ended written =
-      rw (← rows_read a last reads ended) (adds_more held begun held' header (turns_in a last reads).rows begins written)
+      rw (← rows_read a last reads ended) (adds_more held begun held' header (turns_in a last reads).rows begins
+      written)
 
   pub whole_table : (run : RunsInput a known begun Ends.Input a' known' held') →
       Appends held held' (header ++ rows_of_text false (joined run.reads) a)
@@ -45,7 +47,8 @@ module _ (a a' : Areas) (known held begun known' held' : Option (List ℕ)) (beg
   bad_table run = all_written run.last run.reads (λ e. run.ends) run.written
 
 -- The program, by how it ended: its table too.
-module _ {a a' : Areas} {known begun known' held' : Option (List ℕ)} (held : Option (List ℕ)) (b : length a.bytes ≡ 16384)
+module _ {a a' : Areas} {known begun known' held' : Option (List ℕ)} (held : Option (List ℕ))
+    (b : length a.bytes ≡ 16384)
     (w : length a.words ≡ 4096) (begins : Appends held begun header) where
   pub program_done : {r : Ended} → RunsInput a known begun r a' known' held' → RunsProgram known held r known' held'
   program_done {r = Ends.Input} run = record {

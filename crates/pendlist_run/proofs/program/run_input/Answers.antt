@@ -14,16 +14,19 @@ pub returns-then-not-write_rows : goal.returns-then-not-write_rows
 returns-then-not-write_rows g c = write_failed c.loop-reads.invariant.0 c.read_more-n.ensures c.take_turn-turn.ensures
 
 pub returns-then-turn : goal.returns-then-turn
-returns-then-turn g c = list_bad c.loop-reads.invariant.0 c.read_more-n.ensures c.take_turn-turn.ensures (g.W.Write.contents c.write_rows.new.writer) (c.write_rows.ensures c.if-not-write_rows.false) c.if-turn.true
+returns-then-turn g c = list_bad c.loop-reads.invariant.0 c.read_more-n.ensures c.take_turn-turn.ensures
+    (g.W.Write.contents c.write_rows.new.writer) (c.write_rows.ensures c.if-not-write_rows.false) c.if-turn.true
 
 pub returns-then-n-kept : goal.returns-then-n-kept
 returns-then-n-kept g c = input_over c.loop-reads.invariant.0 c.read_more-n.ensures c.take_turn-turn.ensures
-    (g.W.Write.contents c.write_rows.new.writer) (c.write_rows.ensures c.if-not-write_rows.false) c.if-turn.false c.if-n-kept.true
+    (g.W.Write.contents c.write_rows.new.writer) (c.write_rows.ensures c.if-not-write_rows.false) c.if-turn.false
+    c.if-n-kept.true
 
 pub loop-reads-preserved : goal.loop-reads-preserved
 loop-reads-preserved g c = (
   input_goes_on c.loop-reads.invariant.0 c.read_more-n.ensures c.take_turn-turn.ensures
-      (g.W.Write.contents c.write_rows.new.writer) (c.write_rows.ensures c.if-not-write_rows.false) c.if-turn.false c.if-n-kept.false (search rules) (search rules),
+      (g.W.Write.contents c.write_rows.new.writer) (c.write_rows.ensures c.if-not-write_rows.false) c.if-turn.false
+      c.if-n-kept.false (search rules) (search rules),
   search rules,
   search rules,
 )
