@@ -40,7 +40,7 @@ places_fewest n (suc tries) j some least hold = by_test (ltb n (10 ^ j)) refl
   where
     by_test : (q : Bool) → ltb n (10 ^ j) ≡ q →
         ((1 < suc j → 10 ^ (suc j - 1) ≤ n) → n < 10 ^ (suc j + tries) → Fewest n (suc j + tries)
-            (places_from tries (suc j) n)) →
+        (places_from tries (suc j) n)) →
         Fewest n (j + suc tries) (cond q j (places_from tries (suc j) n))
     by_test true e next = record { some = some; few = omega arith; hold = ltb-true n (10 ^ j) e; least = least }
     by_test false e next =
@@ -66,7 +66,7 @@ digits_are zero (suc turns) n more hold least h = by_test (n / 10 == 0) refl
   where
     by_test : (q : Bool) → (n / 10 == 0) ≡ q →
         (cond q (digit_glyph false (n % 10) ∷ more) (digits_onto turns 10 false (n / 10)
-            (digit_glyph false (n % 10) ∷ more)))
+        (digit_glyph false (n % 10) ∷ more)))
         ≡ last_digits 1 n ++ more
     by_test true e = ap (λ (d : ℕ). d ∷ more) (glyph (n % 10) (omega arith))
     by_test false e = absurd (omega (arith, some_left n e))
@@ -78,7 +78,7 @@ digits_are (suc j) (suc turns) n more hold least h =
         digits_onto turns 10 false (n / 10) (digit_glyph false (n % 10) ∷ more)
         ≡ last_digits (suc j) (n / 10) ++ (digit_glyph false (n % 10) ∷ more)) →
         (cond q (digit_glyph false (n % 10) ∷ more) (digits_onto turns 10 false (n / 10)
-            (digit_glyph false (n % 10) ∷ more)))
+        (digit_glyph false (n % 10) ∷ more)))
         ≡ last_digits (suc (suc j)) n ++ more
     by_test true e next =
         let large : 10 ^ suc j ≤ n = least (omega arith) in
@@ -87,13 +87,13 @@ digits_are (suc j) (suc turns) n more hold least h =
         let large : 10 ^ suc j ≤ n = least (omega arith) in
         next (omega (arith, pow-suc 10 (suc j))) (λ _. omega (arith, pow-suc 10 j, large)) (omega arith)
         ∙ rw (glyph (n % 10) (omega arith)) (sym (append_assoc (last_digits (suc j) (n / 10)) ((48 + n % 10) ∷ [])
-            more))
+        more))
 
 all_digits : (n turns k : ℕ) → 20 ≤ turns → Fewest n 20 k → digits_onto turns 10 false n [] ≡ last_digits k n
 all_digits n turns zero h fewest = absurd (omega (arith, fewest.some))
 all_digits n turns (suc k) h fewest =
     digits_are k turns n [] fewest.hold (λ more. simp unary_clauses at (fewest.least (omega arith)))
-        (omega (arith, fewest.few))
+    (omega (arith, fewest.few))
     ∙ append-nil (last_digits (suc k) n)
 
 -- what `itoa` writes
@@ -162,7 +162,7 @@ module _ {numbers : List ℕ} {at i end : ℕ} {out₀ out : List ℕ} (inv : Nu
       Puts (number_text (get_or numbers i 0)) 21 end out r out' → NumbersPut numbers at (i + 1) r out₀ out'
   one_put {r} {out'} h e next =
       let longer : numbers_text (take (i + 1) numbers) ≡ numbers_text (take i numbers) ++ number_text
-          (get_or numbers i 0) =
+      (get_or numbers i 0) =
       rw (add-one, take-suc numbers i 0 h) (numbers_end (take i numbers) (get_or numbers i 0)) in
       let both : Puts _ (21 * i + 21) at out₀ r out' = put_more inv.puts next in
       record {

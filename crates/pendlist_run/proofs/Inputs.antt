@@ -3,7 +3,7 @@ use mathlib.Core.Path.{◌≡◌, refl, sym, ap, ◌∙◌}
 use mathlib.Core.Bool.{Bool, true, false}
 use mathlib.Core.List.{List, [], ◌∷◌, ◌++◌, append_assoc, append-nil}
 use Rattle.std.specs.Prelude.{Option, Some, None}
-use Rattle.std.specs.Io.KnownBytes.{Appends, Consumes, Keeps}
+use Rattle.std.specs.Io.KnownBytes.{Appends, Consumes}
 use Prim.Native.Nat.{ℕ, ◌+◌, ◌-◌, ◌≤◌}
 use native.Mathlib.Omega.{arith}
 use lib.ListN.{length, take, drop, length-take, take-append-drop, drop_of_length-le}
@@ -42,11 +42,6 @@ takes_more None k' k'' b c p q = tt
 takes_more (Some xs) None k'' b c p q = absurd p
 takes_more (Some xs) (Some ys) None b c p q = absurd q
 takes_more (Some xs) (Some ys) (Some zs) b c p q = p ∙ ap (λ (l : List ℕ). b ++ l) q ∙ sym (append_assoc b c zs)
-
-pub keeps_takes : (k k' : Option (List ℕ)) → Keeps k k' → Consumes k k' []
-keeps_takes None k' p = tt
-keeps_takes (Some xs) None p = absurd p
-keeps_takes (Some xs) (Some ys) p = sym p
 
 adds_none : (h : Option (List ℕ)) → Appends h h []
 adds_none None = tt
