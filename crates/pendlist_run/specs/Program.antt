@@ -47,8 +47,8 @@ UnlessWrite Write P = Unit {0}
 UnlessWrite Reads P = P
 
 -- Carrying out an input: there are bytes that its reads brought, and the turns of these reads, and of no others, leave
--- what the areas hold. Where the reader's bytes are known, these are the first of them; where the writer's are known,
--- the rows of the turns, and nothing else, are added to them.
+-- what the areas hold. Where the reader's bytes are known, these are the first of them; where the writer's are known
+-- and no write failed, the rows of the turns, and nothing else, are added to them.
 pub record RunsInput (a : Areas) (known held : Option (List ℕ)) (r : Ended) (a' : Areas) (known' held' : Option (List ℕ))
     : Type 0 where
   pub reads : List (List ℕ)
@@ -58,7 +58,7 @@ pub record RunsInput (a : Areas) (known held : Option (List ℕ)) (r : Ended) (a
   pub taken : Consumes known known' (joined reads)
   pub written : UnlessWrite r (Appends held held' (turns_in a last reads).rows)
 
--- "call answer held bytes cached dropped"
+-- the line "call answer held bytes cached dropped"
 abbrev pub header : List ℕ
 header = codes "call answer held bytes cached dropped\n"
 
