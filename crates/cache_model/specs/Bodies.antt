@@ -1,6 +1,6 @@
 -- What a cache holds: bodies, in templates (document 01, "Holding, ageing, pushing out").
+use Rattle.std.specs.Prelude.{Option}
 use Rattle.std.specs.Prelude.{List, [], ◌∷◌, ◌++◌, Bool, cond, ℕ, ◌+◌, eqb, length}
-use Rattle.config.specs.declared.Ttl.{Ttl}
 use Rattle.config.specs.Age.{expired_at}
 
 -- document 01's "body", with what is kept beside it
@@ -17,7 +17,7 @@ abbrev pub size : Body → ℕ
 size b = length b.bytes
 
 -- document 01's "expired", of a body
-abbrev pub expired : Ttl → ℕ → Body → Bool
+abbrev pub expired : Option ℕ → ℕ → Body → Bool
 expired ttl now b = expired_at ttl now b.clock
 
 -- sums of a weight over bodies, and over the bodies of templates

@@ -1,9 +1,9 @@
 -- A case against each wrong reading that document 01 lists, and one for each call that these leave out. Proved by
 -- computation.
+use Rattle.std.specs.Prelude.{Some, None}
 use Rattle.std.specs.Prelude.{◌≡◌, refl, List, [], ◌∷◌, ◌++◌, map, ℕ}
 use Rattle.std.proofs.Math.Option.{none}
 use Rattle.config.specs.declared.PendingFlowsConfig.{PendingFlowsConfig}
-use Rattle.config.specs.declared.Ttl.TheVariants.{None, After}
 use Rattle.config.specs.Limits.{config_number, limits_number, areas_hold}
 use Rattle.cache_model.specs.Removal.{evicted, evictions, pruned, capped}
 use Rattle.cache_model.specs.Offer.{step2, step3, step4, step5, add_newest, step4or5, after_step3, after_step2}
@@ -25,7 +25,7 @@ record Row : Type 0 where
 -- not pruning before step 2, neither this id nor all: the expired body of 300 does not save 301 from eviction
 abbrev evict_before_prune : Row
 evict_before_prune = record {
-  limits = limits_of 2 2 10 10 (After 100);
+  limits = limits_of 2 2 10 10 (Some 100);
   calls = offer_of 301 4 50 ∷ offer_of 300 6 1 ∷ offer_of 300 5 101 ∷ [];
   answered = (0 ∷ []) ∷ (0 ∷ []) ∷ (0 ∷ []) ∷ [];
   held = (300 ∷ 5 ∷ []) ∷ [];
@@ -43,7 +43,7 @@ no_promotion = record {
 -- a body whose age equals the TTL is expired: it leaves its place to the next
 abbrev expired_at_ttl : Row
 expired_at_ttl = record {
-  limits = limits_of 1 1 10 10 (After 100);
+  limits = limits_of 1 1 10 10 (Some 100);
   calls = offer_of 300 1 0 ∷ WouldAccept 300 2 99 ∷ WouldAccept 300 2 100 ∷ offer_of 300 2 100 ∷ [];
   answered = (0 ∷ []) ∷ (0 ∷ 0 ∷ []) ∷ (0 ∷ 1 ∷ []) ∷ (0 ∷ []) ∷ [];
   held = (300 ∷ 2 ∷ []) ∷ [];

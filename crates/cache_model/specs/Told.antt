@@ -1,7 +1,7 @@
 -- Answers and held bodies in plain numbers, as document 01's cases give them.
+use Rattle.std.specs.Prelude.{Option}
 use Rattle.std.specs.Prelude.{List, [], ◌∷◌, map, cond, ℕ, zero, suc}
 use Rattle.config.specs.declared.PendingFlowsConfig.{PendingFlowsConfig}
-use Rattle.config.specs.declared.Ttl.{Ttl}
 use Rattle.cache_model.specs.Bodies.{Template, size}
 use Rattle.cache_model.specs.Cache.{Answer, done, number, count, says, shows, spans, tells}
 use Rattle.cache_model.specs.Calls.{opened}
@@ -22,7 +22,7 @@ abbrev pub id_and_sizes : Template → List ℕ
 id_and_sizes t = t.id ∷ map size t.bodies
 
 -- the limits in document 01's order
-abbrev pub limits_of : ℕ → ℕ → ℕ → ℕ → Ttl → PendingFlowsConfig
+abbrev pub limits_of : ℕ → ℕ → ℕ → ℕ → Option ℕ → PendingFlowsConfig
 limits_of templates bodies entry total ttl = record {
   max_pending_flows = templates;
   max_entries_per_template = bodies;

@@ -1,4 +1,5 @@
 -- Document 01's cases marked P, in one table, proved together by computation.
+use Rattle.std.specs.Prelude.{Some, None}
 use Rattle.std.specs.Prelude.{◌≡◌, refl, List, [], ◌∷◌, ◌++◌, map, ℕ, replicate}
 use Rattle.wire.specs.declared.Reading.TheVariants.{V9Fixed, IpfixFixed, IpfixVariable}
 use Rattle.wire.specs.Size.{least_size}
@@ -10,7 +11,6 @@ use Rattle.output_budget.specs.declared.DecodedOutputBudget.{DecodedOutputBudget
 use Rattle.output_budget.specs.declared.Exceeded.TheVariants as Exceeded
 use Rattle.output_budget.specs.Budget.{reserve_told}
 use Rattle.config.specs.declared.PendingFlowsConfig.{PendingFlowsConfig}
-use Rattle.config.specs.declared.Ttl.TheVariants.{None, After}
 use Rattle.cache_model.specs.Removal.{evicted, evictions, pruned}
 use Rattle.cache_model.specs.Offer.{step2, step3, step4, step5, add_newest, step4or5, after_step3, after_step2}
 use Rattle.cache_model.specs.Offer.{steps2to5}
@@ -49,7 +49,7 @@ eight_used = record {
 
 -- templates 2, bodies 2, entry 10, total 16, TTL 100
 abbrev small : PendingFlowsConfig
-small = limits_of 2 2 10 16 (After 100)
+small = limits_of 2 2 10 16 (Some 100)
 
 -- offers id/length/clock: the third evicts 300 first
 abbrev up_to_eviction : List Call

@@ -1,5 +1,7 @@
 -- What the functions promise of a step is what the history theorem asks of it, and the areas keep their lengths.
 -- Assumes nothing.
+use Rattle.std.proofs.Common.{Result, Ok, Err}
+use Rattle.std.specs.Prelude.{⊤}
 use mathlib.Core.Path.{◌≡◌, refl, sym, ap, ◌∙◌}
 use mathlib.Core.Logic.{◌≢◌}
 use mathlib.Core.Bool.{Bool, true, false}
@@ -11,8 +13,6 @@ use borrow.Author.Tests.{eqb-true, ne_eqb}
 use Rattle.config.specs.declared.PendingFlowsConfig.{PendingFlowsConfig}
 use Rattle.config.specs.declared.ConfigRefusal.{ConfigRefusal}
 use Rattle.config.specs.declared.ConfigRefusal.TheVariants as Refusal
-use Rattle.config.specs.declared.ConfigAnswer.{ConfigAnswer}
-use Rattle.config.specs.declared.ConfigAnswer.TheVariants.{Accepted, Refused}
 use Rattle.config.specs.Limits.{refusal_number, answer_number}
 use Rattle.cache_model.specs.Cache.{Answer, done, number, shows}
 use Rattle.cache_model.specs.Calls.{opened}
@@ -28,13 +28,13 @@ use Rattle.code_history.proofs.Views.{HoldsCache, read_cache, view_read, view_sa
 
 -- ---- openings
 
-accepted_number : (r : ConfigAnswer) → opening_answer r ≡ done → answer_number r ≡ 0
-accepted_number Accepted e = refl
-accepted_number (Refused n) e = cc
+accepted_number : (r : Result ⊤ ConfigRefusal) → opening_answer r ≡ done → answer_number r ≡ 0
+accepted_number (Ok tt) e = refl
+accepted_number (Err n) e = cc
 
-refused_number : (r : ConfigAnswer) (n : ℕ) → opening_answer r ≡ number n → answer_number r ≡ n
-refused_number Accepted n e = cc
-refused_number (Refused m) n e = cc
+refused_number : (r : Result ⊤ ConfigRefusal) (n : ℕ) → opening_answer r ≡ number n → answer_number r ≡ n
+refused_number (Ok tt) n e = cc
+refused_number (Err m) n e = cc
 
 -- an opening with these limits in these areas
 module _ (l : PendingFlowsConfig) (a : Areas) where
@@ -42,7 +42,7 @@ module _ (l : PendingFlowsConfig) (a : Areas) where
   abbrev number_in : ℕ
   number_in = opening_number (opening_of l a)
 
-  module _ {a' : Areas} {r : ConfigAnswer} (p : Opens l a r a') where
+  module _ {a' : Areas} {r : Result ⊤ ConfigRefusal} (p : Opens l a r a') where
     -- what `open` returned is that number
     pub opening_number_lem : answer_number r ≡ number_in
     unfolding opening

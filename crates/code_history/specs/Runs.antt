@@ -1,8 +1,8 @@
 -- Lists of calls as the code runs them: each step is related by the record that the function's `ensures` cites.
+use Rattle.std.specs.Prelude.{Ok, Err}
 use Rattle.std.specs.Prelude.{◌≡◌, List, [], ◌∷◌, map, ℕ, length}
 use Rattle.config.specs.declared.PendingFlowsConfig.{PendingFlowsConfig}
 use Rattle.config.specs.declared.ConfigRefusal.{ConfigRefusal}
-use Rattle.config.specs.declared.ConfigAnswer.TheVariants.{Accepted, Refused}
 use Rattle.cache_model.specs.Cache.{Answer, says, shows, tells}
 use Rattle.cache_model.specs.Queries.{would_accept, figures}
 use Rattle.cache_model.specs.History.{Offer, Drain, PutBack, Resize, Clear, WouldAccept, ReadHandedOut}
@@ -48,8 +48,8 @@ pub data Step (a a' : Areas) : Event → Answer → Type 0 where
   takes_figures : (r : FiguresAnswer) → Asks (λ c. tells (figures c)) a (figures_answer r) a'
       → Step a a' (call TakeFigures) (figures_answer r)
   -- `open` was called and refused the limits
-  refuses_opening : {l : PendingFlowsConfig} (n : ConfigRefusal) → Opens l a (Refused n) a'
-      → Step a a' (refused_opening (opening_of l a)) (opening_answer (Refused n))
+  refuses_opening : {l : PendingFlowsConfig} (n : ConfigRefusal) → Opens l a (Err n) a'
+      → Step a a' (refused_opening (opening_of l a)) (opening_answer (Err n))
 
 -- Steps one after the other. Nobody else writes the areas: each step finds them as the one before it left them.
 pub data Steps : List Event → Areas → List Answer → Areas → Type 0 where
@@ -67,5 +67,5 @@ pub record Ran (h : History) : Type 0 where
   pub answers : List Answer  -- what the events answered
   pub refused : Steps (map refused_opening h.refused) lent refusals found
   pub own : h.opening ≡ opening_of h.opening.limits found  -- the account is given the lengths of these areas
-  pub opens : Opens h.opening.limits found Accepted empty
+  pub opens : Opens h.opening.limits found (Ok tt) empty
   pub events : Steps h.events empty answers last

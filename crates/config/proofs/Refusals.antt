@@ -1,4 +1,6 @@
 -- The tests of the limits in their order, one law for each way out. Assumes nothing.
+use Rattle.std.proofs.Common.{Result, Ok, Err}
+use Rattle.std.specs.Prelude.{⊤}
 use mathlib.Core.Path.{◌≡◌, refl, ap, sym, ◌∙◌}
 use mathlib.Core.Bool.{Bool, true, false, cond}
 use Prim.Native.Nat.{ℕ, ◌*◌, ◌≤◌, ◌<◌}
@@ -10,8 +12,6 @@ use Rattle.config.specs.declared.PendingFlowsConfig.{PendingFlowsConfig}
 use Rattle.config.specs.declared.ConfigRefusal.{ConfigRefusal}
 use Rattle.config.specs.declared.ConfigRefusal.TheVariants.{NoTemplates, NoEntries, EntrySize, TotalBytes}
 use Rattle.config.specs.declared.ConfigRefusal.TheVariants.{Areas}
-use Rattle.config.specs.declared.ConfigAnswer.{ConfigAnswer}
-use Rattle.config.specs.declared.ConfigAnswer.TheVariants.{Accepted, Refused}
 use Rattle.config.specs.Limits.{refusal_number, answer_number, words_needed, limits_number, areas_hold, config_number}
 
 module _ (c : PendingFlowsConfig) where
@@ -140,7 +140,7 @@ module _ (c : PendingFlowsConfig) where
               e
 
     -- the answer on the limits alone is the answer, or it is left to the areas
-    pub refused_limits : (a : ConfigAnswer) (n : ConfigRefusal) → a ≡ Refused n → answer_number a ≡ limits_number c →
+    pub refused_limits : (a : Result ⊤ ConfigRefusal) (n : ConfigRefusal) → a ≡ Err n → answer_number a ≡ limits_number c →
         answer_number a ≡ config_number c bytes words
     unfolding config_number
     refused_limits a n e f = rw (← f, e) (by_refusal n)
@@ -153,7 +153,7 @@ module _ (c : PendingFlowsConfig) where
         by_refusal TotalBytes = refl
         by_refusal Areas = refl
 
-    module _ (a : ConfigAnswer) (accepted : a ≡ Accepted) (said : answer_number a ≡ limits_number c) where
+    module _ (a : Result ⊤ ConfigRefusal) (accepted : a ≡ Ok tt) (said : answer_number a ≡ limits_number c) where
       none_refused : limits_number c ≡ 0
       none_refused = sym said ∙ ap answer_number accepted
 

@@ -1,11 +1,10 @@
 -- Which limits are refused, and with which number (document 01, "Numbers that come from the input", 1 to 5).
+use Rattle.std.specs.Prelude.{Result, Ok, Err, ⊤}
 use Rattle.std.specs.Prelude.{Bool, false, cond, ℕ, ◌+◌, ◌*◌, eqb, leb, ltb}
 use Rattle.config.specs.declared.PendingFlowsConfig.{PendingFlowsConfig}
 use Rattle.config.specs.declared.ConfigRefusal.{ConfigRefusal}
 use Rattle.config.specs.declared.ConfigRefusal.TheVariants.{NoTemplates, NoEntries, EntrySize, TotalBytes}
 use Rattle.config.specs.declared.ConfigRefusal.TheVariants.{Areas}
-use Rattle.config.specs.declared.ConfigAnswer.{ConfigAnswer}
-use Rattle.config.specs.declared.ConfigAnswer.TheVariants.{Accepted, Refused}
 
 -- document 01's number of each refusal
 abbrev pub refusal_number : ConfigRefusal → ℕ
@@ -16,9 +15,9 @@ refusal_number TotalBytes = 4
 refusal_number Areas = 5
 
 -- 0, or the number of the refusal
-abbrev pub answer_number : ConfigAnswer → ℕ
-answer_number Accepted = 0
-answer_number (Refused n) = refusal_number n
+abbrev pub answer_number : Result ⊤ ConfigRefusal → ℕ
+answer_number (Ok tt) = 0
+answer_number (Err n) = refusal_number n
 
 -- the words of the header, of a template's record, and of a body's entry
 abbrev pub header_words : ℕ

@@ -8,27 +8,19 @@ ghost use Rattle.config.specs.Limits.{refusal_number, answer_number, limits_numb
 
 pub use age::is_expired;
 
-// How long a body may be held.
-#[derive(Clone, Copy)]
-pub enum Ttl {
-    // for ever
-    None,
-    // it is expired at this age, in nanoseconds
-    After(u64),
-}
-
-#[derive(Clone, Copy)]
+#[derive(Clone, Copy, Debug, PartialEq, Eq)]
 pub struct PendingFlowsConfig {
     // how many templates are held
     pub max_pending_flows: usize,
     pub max_entries_per_template: usize,
     pub max_entry_size_bytes: usize,
     pub max_total_bytes: usize,
-    pub ttl: Ttl,
+    // a body is expired at this age, in nanoseconds; without one, never
+    pub ttl: Option<u64>,
 }
 
 // Why limits are refused.
-#[derive(Clone, Copy)]
+#[derive(Clone, Copy, Debug, PartialEq, Eq)]
 pub enum ConfigRefusal {
     NoTemplates,
     NoEntries,
@@ -36,12 +28,6 @@ pub enum ConfigRefusal {
     TotalBytes,
     // above what the areas, or any areas, can hold
     Areas,
-}
-
-#[derive(Clone, Copy)]
-pub enum ConfigAnswer {
-    Accepted,
-    Refused(ConfigRefusal),
 }
 
 // The largest body that a data set can have: a 16-bit length, less the 4-byte header.
@@ -61,41 +47,43 @@ pub const RECORD_WORDS: usize = 8;
 pub const ENTRY_WORDS: usize = 4;
 
 // Document 01's number of a refusal.
-pub fn config_number(refusal: ConfigRefusal) -> u32
-    ensures { result ≡ refusal_number refusal }
-{
-    match refusal {
-        ConfigRefusal::NoTemplates => 1,
-        ConfigRefusal::NoEntries => 2,
-        ConfigRefusal::EntrySize => 3,
-        ConfigRefusal::TotalBytes => 4,
-        ConfigRefusal::Areas => 5,
+impl From<ConfigRefusal> for u32 {
+    ghost from_gives = { λ refusal number. number ≡ refusal_number refusal };
+
+    fn from(refusal: ConfigRefusal) -> u32 {
+        match refusal {
+            ConfigRefusal::NoTemplates => 1,
+            ConfigRefusal::NoEntries => 2,
+            ConfigRefusal::EntrySize => 3,
+            ConfigRefusal::TotalBytes => 4,
+            ConfigRefusal::Areas => 5,
+        }
     }
 }
 
 // The limits by themselves: 1 to 4.
-fn validate_limits(config: PendingFlowsConfig) -> ConfigAnswer
+fn validate_limits(config: PendingFlowsConfig) -> Result<(), ConfigRefusal>
     ensures { answer_number result ≡ limits_number config }
 {
     if config.max_pending_flows == 0 {
-        return ConfigAnswer::Refused(ConfigRefusal::NoTemplates);
+        return Err(ConfigRefusal::NoTemplates);
     }
     if config.max_entries_per_template == 0 {
-        return ConfigAnswer::Refused(ConfigRefusal::NoEntries);
+        return Err(ConfigRefusal::NoEntries);
     }
     if config.max_entry_size_bytes == 0 {
-        return ConfigAnswer::Refused(ConfigRefusal::EntrySize);
+        return Err(ConfigRefusal::EntrySize);
     }
     if MAX_ENTRY_SIZE_LIMIT < config.max_entry_size_bytes {
-        return ConfigAnswer::Refused(ConfigRefusal::EntrySize);
+        return Err(ConfigRefusal::EntrySize);
     }
     if config.max_total_bytes == 0 {
-        return ConfigAnswer::Refused(ConfigRefusal::TotalBytes);
+        return Err(ConfigRefusal::TotalBytes);
     }
     if config.max_total_bytes < config.max_entry_size_bytes {
-        return ConfigAnswer::Refused(ConfigRefusal::TotalBytes);
+        return Err(ConfigRefusal::TotalBytes);
     }
-    ConfigAnswer::Accepted
+    Ok(())
 }
 
 // Whether the limits are within what any areas hold, and areas of these lengths hold them.
@@ -129,15 +117,12 @@ pub fn validate_config(
     config: PendingFlowsConfig,
     bytes_len: usize,
     words_len: usize,
-) -> ConfigAnswer
+) -> Result<(), ConfigRefusal>
     ensures { answer_number result ≡ config_number config bytes_len words_len }
 {
-    let limits = validate_limits(config);
-    let ConfigAnswer::Accepted = limits else {
-        return limits;
-    };
+    validate_limits(config)?;
     if areas_hold(config, bytes_len, words_len) {
-        return ConfigAnswer::Accepted;
+        return Ok(());
     }
-    ConfigAnswer::Refused(ConfigRefusal::Areas)
+    Err(ConfigRefusal::Areas)
 }

@@ -1,11 +1,12 @@
 -- A call's promise says that its answer is the definition's: so is the number handed over, and so are the values.
 -- Assumes nothing.
+use Rattle.std.proofs.Common.{Result, Ok, Err}
+use Rattle.std.specs.Prelude.{⊤}
+use Rattle.config.specs.declared.ConfigRefusal.{ConfigRefusal}
 use mathlib.Core.Path.{◌≡◌, refl, ap, subst, ◌∙◌}
 use mathlib.Core.List.{List}
 use Prim.Native.Nat.{ℕ}
 use Rattle.config.specs.declared.PendingFlowsConfig.{PendingFlowsConfig}
-use Rattle.config.specs.declared.ConfigAnswer.{ConfigAnswer}
-use Rattle.config.specs.declared.ConfigAnswer.TheVariants.{Accepted, Refused}
 use Rattle.config.specs.Limits.{answer_number}
 use Rattle.cache_model.specs.Cache.{Cache, Answer}
 use Rattle.pending_flows.specs.View.{Areas}
@@ -24,11 +25,11 @@ exports_values {r = r} {vs = vs} {vs' = vs'} x p e h =
     record { exported = subst (λ (y : Answer). Exported y r vs vs') e h; called_answer = x; promise = p }
 
 -- the numbers of limits as those of an opening
-opening_number_lem : (x : ConfigAnswer) → answer_number x ≡ exported_number (opening_answer x)
-opening_number_lem Accepted = refl
-opening_number_lem (Refused n) = refl
+opening_number_lem : (x : Result ⊤ ConfigRefusal) → answer_number x ≡ exported_number (opening_answer x)
+opening_number_lem (Ok tt) = refl
+opening_number_lem (Err n) = refl
 
-pub exports_open : {l m : PendingFlowsConfig} {a a' : Areas} {x : ConfigAnswer} {r : ℕ} → l ≡ m → Opens l a x a' →
+pub exports_open : {l m : PendingFlowsConfig} {a a' : Areas} {x : Result ⊤ ConfigRefusal} {r : ℕ} → l ≡ m → Opens l a x a' →
     r ≡ answer_number x → ExportsOpen m a r a'
 exports_open {a = a} {a' = a'} {x = x} {r = r} e p n =
     subst (λ (l : PendingFlowsConfig). ExportsOpen l a r a') e (exports x p p.answer (n ∙ opening_number_lem x))

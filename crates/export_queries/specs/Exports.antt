@@ -1,8 +1,8 @@
 -- How the cache's calls cross to C: a number, and values that are written on success only. Opening and the queries.
+use Rattle.std.specs.Prelude.{None, Result, ⊤}
+use Rattle.config.specs.declared.ConfigRefusal.{ConfigRefusal}
 use Rattle.std.specs.Prelude.{◌≡◌, cond, List, [], ◌∷◌, ℕ}
-use Rattle.config.specs.declared.Ttl.TheVariants.{None}
 use Rattle.config.specs.declared.PendingFlowsConfig.{PendingFlowsConfig}
-use Rattle.config.specs.declared.ConfigAnswer.{ConfigAnswer}
 use Rattle.config.specs.Limits.{config_number}
 use Rattle.table.specs.Layout.{ttl_of}
 use Rattle.cache_model.specs.Cache.{Cache, Answer, done, number, count, says, shows, spans, tells}
@@ -68,7 +68,7 @@ ExportsValidate words bytes t b e m r = r ≡ config_number (limits_of t b e m N
 
 abbrev pub ExportsOpen : PendingFlowsConfig → Areas → ℕ → Areas → Type 0
 ExportsOpen limits a r a' =
-    Exports (opening_in limits a).answer (λ (x : ConfigAnswer). Opens limits a x a') r
+    Exports (opening_in limits a).answer (λ (x : Result ⊤ ConfigRefusal). Opens limits a x a') r
 
 -- a query: the areas stay as they were
 abbrev pub ExportsQuery : (Cache → Answer) → Areas → ℕ → Areas → (vs vs' : List ℕ) → Type 0

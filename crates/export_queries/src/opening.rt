@@ -5,16 +5,16 @@ ghost use Rattle.table.specs.Layout.{ttl_of};
 ghost use Rattle.pending_flows.specs.View.{areas_of};
 ghost use Rattle.export_queries.specs.Exports.{limits_from, ExportsValidate, ExportsOpen};
 
-use config::{ConfigAnswer, PendingFlowsConfig, Ttl};
+use config::{PendingFlowsConfig};
 
 // No TTL where `has_ttl` is 0.
-fn ttl_from(has_ttl: u32, ttl: u64) -> Ttl
+fn ttl_from(has_ttl: u32, ttl: u64) -> Option<u64>
     ensures { result ≡ ttl_of has_ttl ttl }
 {
     if has_ttl == 0 {
-        Ttl::None
+        None
     } else {
-        Ttl::After(ttl)
+        Some(ttl)
     }
 }
 
@@ -41,12 +41,12 @@ pub fn limits_from(
 }
 
 // The number that limits are refused with, or 0.
-fn config_answer_number(answer: ConfigAnswer) -> u32
+fn config_answer_number(answer: Result<(), ConfigRefusal>) -> u32
     ensures { result ≡ answer_number answer }
 {
     match answer {
-        ConfigAnswer::Accepted => 0,
-        ConfigAnswer::Refused(refusal) => config::config_number(refusal),
+        Ok(()) => 0,
+        Err(refusal) => config::config_number(refusal),
     }
 }
 

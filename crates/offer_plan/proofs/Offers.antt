@@ -1,5 +1,7 @@
 -- The plan of an offer from its steps, with the limits l and the figures f that were read, the records from word p on,
 -- and n templates that go for their bytes. Assumes nothing.
+use Rattle.std.proofs.Common.{Option}
+use Rattle.table.specs.declared.TemplateRecord.{TemplateRecord}
 use mathlib.Core.Path.{◌≡◌, ap, ◌∙◌}
 use mathlib.Core.Bool.{Bool, true}
 use mathlib.Core.List.{List}
@@ -8,7 +10,6 @@ use native.Mathlib.Omega.{arith}
 use lib.ListN.{length, set, take, drop}
 use Rattle.config.specs.declared.PendingFlowsConfig.{PendingFlowsConfig}
 use Rattle.config.specs.Limits.{record_words}
-use Rattle.table.specs.declared.RecordFound.{RecordFound}
 use Rattle.table.specs.Layout.{limits_of, held_count, entry_count, chance_count, entries_at, records_at}
 use Rattle.table.specs.Table.{table_of, entries_from, records_from}
 use Rattle.table.specs.WellFormed.{well_formed}
@@ -111,7 +112,7 @@ module _ (w b : List ℕ) (ok : well_formed w (length b) ≡ true) (l : PendingF
           counted = record_keyed _ id (drop n held) (all_drop _ n held (held_seen w b ok id clock m seen));
         })
 
-    pub plan_done : (id clock label c m : ℕ) (d : Decision) (x : RecordFound) (v u : Bool) →
+    pub plan_done : (id clock label c m : ℕ) (d : Decision) (x : Option TemplateRecord) (v u : Bool) →
         m ≡ live_bodies w id clock →
         Decides l id (live_sums l.ttl clock (entries_from w entries_at f.entries))
         (records_from w (p + record_words * n) (f.templates - n)) d →

@@ -1,4 +1,5 @@
 -- The plan that the code makes is the model's. Assumes nothing.
+use Rattle.std.proofs.Common.{Option, Some, None}
 use mathlib.Core.Path.{◌≡◌, refl, sym, ap, subst, ◌∙◌}
 use mathlib.Core.Logic.{◌≢◌}
 use mathlib.Core.Bool.{Bool, true, false, not, ◌&&◌, ◌||◌, cond}
@@ -8,8 +9,6 @@ use native.Mathlib.Omega.{arith}
 use lib.Dec.{eqb, leb, ltb}
 use lib.ListN.{length, get_or, take, drop}
 use borrow.Author.Tests.{leb-true, eqb-true, not-true, ne_eqb}
-use Rattle.config.specs.declared.Ttl.{Ttl}
-use Rattle.config.specs.declared.Ttl.TheVariants.{None, After}
 use Rattle.config.specs.declared.PendingFlowsConfig.{PendingFlowsConfig}
 use Rattle.config.specs.Age.{expired_at}
 use Rattle.config.proofs.Tests.{and_left, and_right}
@@ -297,10 +296,10 @@ module _ (w b : List ℕ) (id len clock : ℕ) where
       unfolding none_expires
       none_expired_here e = by_ttl l.ttl refl (sym unaged ∙ e)
         where
-          by_ttl : (ttl : Ttl) → l.ttl ≡ ttl → none_expires ttl d.all (count_of id held) m ≡ true →
+          by_ttl : (ttl : Option ℕ) → l.ttl ≡ ttl → none_expires ttl d.all (count_of id held) m ≡ true →
               All (λ x. stays (plan_test l clock made) x ≡ true) es
           by_ttl None is h = unaged_stay (plan_test l clock made) es is (short w b ok)
-          by_ttl (After limit) is h =
+          by_ttl (Some limit) is h =
               fresh_stay (not-true d.all (and_left (not d.all) (eqb (count_of id held) m) h))
               (own_counts (eqb-true (count_of id held) m (and_right (not d.all) (eqb (count_of id held) m) h)))
 

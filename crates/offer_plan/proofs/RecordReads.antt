@@ -1,5 +1,6 @@
 -- What an offer reads off the records, with the bytes or the live bodies of each label beside them, is what the model
 -- reads off their templates. Assumes nothing.
+use Rattle.std.proofs.Common.{Option, Some, None}
 use mathlib.Core.Path.{◌≡◌, refl}
 use mathlib.Core.Bool.{Bool, true, false, cond}
 use mathlib.Core.List.{List, [], ◌∷◌}
@@ -12,8 +13,6 @@ use Rattle.config.proofs.Lists.{All}
 use Rattle.config.proofs.Tests.{same_test}
 use Rattle.table.specs.declared.Entry.{Entry}
 use Rattle.table.specs.declared.TemplateRecord.{TemplateRecord}
-use Rattle.table.specs.declared.LabelFound.{LabelFound}
-use Rattle.table.specs.declared.LabelFound.TheVariants as Label
 use Rattle.table.specs.Reads.{label_of}
 use Rattle.table.specs.Passes.{first_label}
 use Rattle.table_records.specs.Choose.{evictions_of, live_records, first_live}
@@ -87,7 +86,7 @@ module _ (b : List ℕ) (es : List Entry) where
     here_read id (r ∷ rs) has = by_key (eqb id r.key) (here_read id rs has.1)
       where
         by_key : (t : Bool) → live_at live (label_of id rs) ≡ length (keep p (bodies_of id (templates_at b es rs))) →
-            live_at live (cond t (Label.At r.label) (label_of id rs))
+            live_at live (cond t (Some r.label) (label_of id rs))
             ≡ length (keep p (cond t (bodies_at b r.label es) (bodies_of id (templates_at b es rs))))
         by_key true ih = has.0
         by_key false ih = ih
@@ -131,9 +130,9 @@ module _ (b : List ℕ) (es : List Entry) where
         by_list (x ∷ xs) e ih h = rw (lt-ltb 0 (get_or live r.label 0) (omega arith)) a.0
 
   -- the records but the one that was found
-  abbrev found_one : LabelFound → ℕ
-  found_one (Label.At k) = 1
-  found_one Label.Nothing = 0
+  abbrev found_one : Option ℕ → ℕ
+  found_one (Some k) = 1
+  found_one None = 0
 
   others_many : (id : ℕ) (rs : List TemplateRecord) →
       length rs ≡ length (without id (templates_at b es rs)) + found_one (label_of id rs)
@@ -146,7 +145,7 @@ module _ (b : List ℕ) (es : List Entry) where
 
       by_key : (t : Bool) → length rs ≡ length (without id ts) + found_one (label_of id rs) →
           length (r ∷ rs) ≡ length (cond t ts (template_at b es r ∷ without id ts))
-          + found_one (cond t (Label.At r.label) (label_of id rs))
+          + found_one (cond t (Some r.label) (label_of id rs))
       by_key true ih = omega (arith, length_templates b es rs)
       by_key false ih = omega arith
 
@@ -157,12 +156,12 @@ module _ (b : List ℕ) (es : List Entry) where
       others : ℕ
       others = length (without id (templates_at b es rs))
 
-      by_found : (x : LabelFound) → length rs ≡ others + found_one x → others_fill x (length rs) most ≡ leb most others
-      by_found (Label.At k) e =
+      by_found : (x : Option ℕ) → length rs ≡ others + found_one x → others_fill x (length rs) most ≡ leb most others
+      by_found (Some k) e =
           same_test (ltb most (length rs)) (leb most others)
           (λ t. le-leb most others (omega (arith, ltb-true most (length rs) t)))
           (λ t. lt-ltb most (length rs) (omega (arith, leb-true most others t)))
-      by_found Label.Nothing e =
+      by_found None e =
           same_test (leb most (length rs)) (leb most others)
           (λ t. le-leb most others (omega (arith, leb-true most (length rs) t)))
           (λ t. le-leb most (length rs) (omega (arith, leb-true most others t)))

@@ -1,4 +1,5 @@
 -- The steps by which a plan is made, from what their callees ensure. Assumes nothing.
+use Rattle.std.proofs.Common.{Option, None}
 use mathlib.Core.Path.{◌≡◌, refl, sym, ap, ◌∙◌}
 use mathlib.Core.Bool.{Bool, true, false}
 use mathlib.Core.List.{List, [], ◌∷◌}
@@ -7,13 +8,11 @@ use native.Mathlib.Omega.{arith}
 use lib.Dec.{leb, ltb}
 use lib.ListN.{length, get_or}
 use borrow.Author.Tests.{leb-true, lt-ltb, le-ltb, lt-leb, le-leb}
-use Rattle.config.specs.declared.Ttl.TheVariants.{None}
 use Rattle.config.specs.declared.PendingFlowsConfig.{PendingFlowsConfig}
 use Rattle.config.specs.Limits.{record_words, entry_words, max_bodies}
 use Rattle.config.proofs.Lists.{All, all_both}
 use Rattle.table.specs.declared.Entry.{Entry}
 use Rattle.table.specs.declared.TemplateRecord.{TemplateRecord}
-use Rattle.table.specs.declared.RecordFound.{RecordFound}
 use Rattle.table.specs.Layout.{limits_of, entries_at, records_at}
 use Rattle.table.specs.Table.{table_of, entries_from, records_from, tally}
 use Rattle.table.specs.Passes.{first_label}
@@ -103,7 +102,7 @@ oldest_found l clock es rs sums k q tests counted first =
 -- ---- the decision: of the id's m live bodies h are found
 
 module _ (l : PendingFlowsConfig) (id clock : ℕ) (w : List ℕ) (es : List Entry) (p n : ℕ)
-    (x : RecordFound) (m h : ℕ) (reads : LiveRead l.ttl clock (records_from w p n) es)
+    (x : Option TemplateRecord) (m h : ℕ) (reads : LiveRead l.ttl clock (records_from w p n) es)
     (seen : LiveSeen id m l.ttl clock (records_from w p n) es) (found : x ≡ record_of id (records_from w p n))
     (read : h ≡ live_found m x)
   where

@@ -1,4 +1,5 @@
 -- The sums by label that an offer takes: the bytes of each label's bodies, and its live bodies. Assumes nothing.
+use Rattle.std.proofs.Common.{Option, None}
 use mathlib.Core.Path.{◌≡◌, ap, ◌∙◌}
 use mathlib.Core.Bool.{Bool, true, false, not, ◌&&◌, ◌||◌, and-true}
 use mathlib.Core.List.{List, []}
@@ -7,8 +8,6 @@ use native.Mathlib.Omega.{arith}
 use lib.Dec.{eqb}
 use lib.ListN.{length, get_or, drop, drop_of_length-le}
 use borrow.Author.Tests.{le-leb}
-use Rattle.config.specs.declared.Ttl.{Ttl}
-use Rattle.config.specs.declared.Ttl.TheVariants.{None}
 use Rattle.config.proofs.Lists.{All, all_both}
 use Rattle.table.specs.declared.Entry.{Entry}
 use Rattle.table.proofs.Facts.{Placed}
@@ -64,7 +63,7 @@ module _ (b : List ℕ) (k : ℕ) where
         let q = live_test None clock in
         omega (arith, all_unaged clock, summed_label q true es k small, label_bytes b q k es within, sizes_most most p)
 
-    pub live_summed : (ttl : Ttl) (clock : ℕ) → length es ≤ sum_most →
+    pub live_summed : (ttl : Option ℕ) (clock : ℕ) → length es ≤ sum_most →
         get_or (summed (live_test ttl clock) false zeros es) k 0
         ≡ length (keep (λ x. not (expired ttl clock x)) (bodies_at b k es))
     live_summed ttl clock few =

@@ -1,5 +1,6 @@
 -- What a plan reads of a well-formed table: the bytes and the live bodies of the held templates, and the records that
 -- evictions leave. Assumes nothing.
+use Rattle.std.proofs.Common.{None}
 use mathlib.Core.Path.{◌≡◌, sym, ap, ◌∙◌}
 use mathlib.Core.Bool.{Bool, true, false, not, cond}
 use mathlib.Core.List.{List, [], ◌∷◌, ◌++◌}
@@ -8,7 +9,6 @@ use native.Mathlib.Omega.{arith}
 use lib.Dec.{eqb, ltb}
 use lib.ListN.{length, take, drop}
 use borrow.Author.Tests.{eqb-true}
-use Rattle.config.specs.declared.Ttl.TheVariants.{None}
 use Rattle.config.specs.Limits.{record_words}
 use Rattle.config.proofs.Lists.{All, all_map, all_front}
 use Rattle.table.specs.declared.Entry.{Entry}

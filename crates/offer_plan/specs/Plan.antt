@@ -1,16 +1,11 @@
 -- What an offer decides before anything is written: the model's plan (cache_model, proofs/Plans.antt), read off the
 -- records and the live bodies of each label.
+use Rattle.std.specs.Prelude.{Option, Some, None}
 use Rattle.std.specs.Prelude.{◌≡◌, List, [], ◌∷◌, Bool, true, false, not, ◌&&◌, cond, ℕ, ◌+◌, ◌≤◌, ◌<◌, eqb, leb, ltb, length, get_or, set, take, drop, replicate}
-use Rattle.config.specs.declared.Ttl.{Ttl}
-use Rattle.config.specs.declared.Ttl.TheVariants.{None, After}
 use Rattle.config.specs.declared.PendingFlowsConfig.{PendingFlowsConfig}
 use Rattle.config.proofs.Lists.{All}
 use Rattle.table.specs.declared.Entry.{Entry}
 use Rattle.table.specs.declared.TemplateRecord.{TemplateRecord}
-use Rattle.table.specs.declared.RecordFound.{RecordFound}
-use Rattle.table.specs.declared.RecordFound.TheVariants as Record
-use Rattle.table.specs.declared.LabelFound.{LabelFound}
-use Rattle.table.specs.declared.LabelFound.TheVariants as Label
 use Rattle.table.specs.Layout.{limits_of, held_count}
 use Rattle.table.specs.Table.{table_of, tally}
 use Rattle.table.specs.Passes.{first_label}
@@ -29,7 +24,7 @@ use Rattle.offer_plan.specs.declared.plan.OfferPlan.{OfferPlan}
 use Rattle.offer_plan.specs.declared.plan.Decision.{Decision}
 
 -- by this test the bodies that are not expired stay
-abbrev pub live_test : Ttl → ℕ → StayTest
+abbrev pub live_test : Option ℕ → ℕ → StayTest
 live_test ttl clock = record {
   ttl = ttl;
   clock = clock;
@@ -44,13 +39,13 @@ lens_of label [] = 0
 lens_of label (e ∷ es) = cond (eqb label e.label) e.len 0 + lens_of label es
 
 -- how many live bodies each label has
-abbrev pub live_sums : Ttl → ℕ → List Entry → List ℕ
+abbrev pub live_sums : Option ℕ → ℕ → List Entry → List ℕ
 live_sums ttl clock es = summed (live_test ttl clock) false (replicate 1024 0) es
 
 -- what holds of a record that was found
-abbrev pub FoundHas : (TemplateRecord → Type 0) → RecordFound → Type 0
-FoundHas P (Record.At r) = P r
-FoundHas P Record.Nothing = Unit {0}
+abbrev pub FoundHas : (TemplateRecord → Type 0) → Option TemplateRecord → Type 0
+FoundHas P (Some r) = P r
+FoundHas P None = Unit {0}
 
 -- how many live bodies an id has
 abbrev pub live_bodies : List ℕ → ℕ → ℕ → ℕ
@@ -58,29 +53,29 @@ live_bodies w id clock =
     live_count (limits_of w).ttl clock (label_or_none (label_of id (table_of w).held)) (table_of w).entries
 
 -- as many, where a record was found, and else none
-abbrev pub live_found : ℕ → RecordFound → ℕ
-live_found live (Record.At r) = live
-live_found live Record.Nothing = 0
+abbrev pub live_found : ℕ → Option TemplateRecord → ℕ
+live_found live (Some r) = live
+live_found live None = 0
 
 -- Where the id has a record among these, it has so many live bodies.
-pub record LiveSeen (id live : ℕ) (ttl : Ttl) (clock : ℕ) (rs : List TemplateRecord) (es : List Entry) : Type 0 where
+pub record LiveSeen (id live : ℕ) (ttl : Option ℕ) (clock : ℕ) (rs : List TemplateRecord) (es : List Entry) : Type 0 where
   pub counted : FoundHas (λ r. live ≡ live_count ttl clock r.label es) (record_of id rs)
 
 -- Each record has bodies, its count is right, and its live bodies are few enough to be summed.
-pub record LiveRead (ttl : Ttl) (clock : ℕ) (rs : List TemplateRecord) (es : List Entry) : Type 0 where
+pub record LiveRead (ttl : Option ℕ) (clock : ℕ) (rs : List TemplateRecord) (es : List Entry) : Type 0 where
   pub some : All (λ r. 0 < r.count) rs
   pub counts : All (λ r. r.count ≡ tally r.label es) rs
   pub live : All (λ r. live_count ttl clock r.label es ≡ get_or (live_sums ttl clock es) r.label 0) rs
 
 -- how many live bodies a label has, where `live` has those of each label
-abbrev pub live_at : List ℕ → LabelFound → ℕ
-live_at live (Label.At k) = get_or live k 0
-live_at live Label.Nothing = 0
+abbrev pub live_at : List ℕ → Option ℕ → ℕ
+live_at live (Some k) = get_or live k 0
+live_at live None = 0
 
 -- whether n records, but the one that was found, are as many as there may be
-abbrev pub others_fill : LabelFound → ℕ → ℕ → Bool
-others_fill (Label.At k) n most = ltb most n
-others_fill Label.Nothing n most = leb most n
+abbrev pub others_fill : Option ℕ → ℕ → ℕ → Bool
+others_fill (Some k) n most = ltb most n
+others_fill None n most = leb most n
 
 -- the label of the least recent template with live bodies, where those templates are as many as there may be
 abbrev pub first_evicted : ℕ → List ℕ → List TemplateRecord → ℕ
@@ -108,9 +103,9 @@ pub record NothingGoes (evicted chance : ℕ) (all unaged : Bool) : Type 0 where
 
 -- whether it is certain that no body goes as expired, where so many of the id's bodies are live and its record has this
 -- count
-unfoldable pub none_expires : Ttl → Bool → ℕ → ℕ → Bool
+unfoldable pub none_expires : Option ℕ → Bool → ℕ → ℕ → Bool
 none_expires None all count live = true
-none_expires (After ttl) all count live = not all && eqb count live
+none_expires (Some ttl) all count live = not all && eqb count live
 
 -- which bodies stay by themselves
 abbrev pub plan_test : PendingFlowsConfig → ℕ → OfferPlan → StayTest

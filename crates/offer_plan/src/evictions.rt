@@ -11,7 +11,7 @@ ghost use Rattle.pending_flows.specs.View.{cache_of};
 ghost use Rattle.offer_plan.specs.Plan.{lens_of};
 
 use super::live_tests::live_test;
-use config::{ENTRY_WORDS, HEADER_WORDS, PendingFlowsConfig, Ttl};
+use config::{ENTRY_WORDS, HEADER_WORDS, PendingFlowsConfig};
 use pending_flows::HeaderFigures;
 use table::{LABELS, entry_at, first_label, records_at};
 use table_entries::sums_by_label;
@@ -66,7 +66,7 @@ fn evictions_by_sizes(
 {
     let room = (limits.max_total_bytes - len) as u64;
     // expired bodies count: they go after this step, and with no time to live none is expired
-    let ttl = Ttl::None;
+    let ttl = None;
     let mut sizes = [0u32; LABELS];
     sums_by_label(
         words,

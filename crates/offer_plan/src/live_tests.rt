@@ -2,12 +2,12 @@
 ghost use Rattle.std.specs.Prelude.{◌≡◌};
 ghost use Rattle.offer_plan.specs.Plan.{live_test};
 
-use config::Ttl;
+
 use table::LABELS;
 use table_entries::StayTest;
 
 // The test by which bodies that are not expired stay.
-pub fn live_test(ttl: Ttl, clock: u64) -> StayTest
+pub fn live_test(ttl: Option<u64>, clock: u64) -> StayTest
     ensures { result ≡ live_test ttl clock }
 {
     StayTest {

@@ -12,9 +12,9 @@ ghost use Rattle.offer_plan.specs.Plan.{none_expires, skip_of, Plans};
 
 use super::evictions::evictions_for;
 use super::live_tests::live_test;
-use config::{PendingFlowsConfig, RECORD_WORDS, Ttl};
+use config::{PendingFlowsConfig, RECORD_WORDS};
 use pending_flows::HeaderFigures;
-use table::{LABELS, RecordFound, count_in, first_label, record_of, records_at};
+use table::{LABELS, count_in, first_label, record_of, records_at};
 use table_entries::sums_by_label;
 use table_records::{first_live, live_records, set_sum, skip_records};
 
@@ -45,22 +45,22 @@ struct Decision {
 }
 
 // How many live bodies the record that was found has, where the id has so many.
-fn live_found(found: RecordFound, live: usize) -> usize
+fn live_found(found: Option<TemplateRecord>, live: usize) -> usize
     ensures { result ≡ live_found live found }
 {
     match found {
-        RecordFound::At(_) => live,
-        RecordFound::Nothing => 0,
+        Some(_) => live,
+        None => 0,
     }
 }
 
 // Whether the records but the one that was found are as many as there may be.
-fn others_fill(found: RecordFound, records: usize, most: usize) -> bool
+fn others_fill(found: Option<TemplateRecord>, records: usize, most: usize) -> bool
     ensures { result ≡ others_fill (label_in found) records most }
 {
     match found {
-        RecordFound::At(_) => most < records,
-        RecordFound::Nothing => most <= records,
+        Some(_) => most < records,
+        None => most <= records,
     }
 }
 
@@ -110,7 +110,7 @@ fn oldest_evicted(
         entries_at entries)) (records_from words.now from records) }
 {
     let ttl = limits.ttl;
-    let Ttl::After(_) = ttl else {
+    let Some(_) = ttl else {
         return first_of_full(words, from, records, limits.max_pending_flows);
     };
     let mut live = [0u32; LABELS];
@@ -181,21 +181,21 @@ fn nothing_goes(evicted: usize, chance: u64, all: bool, none_expired: bool) -> b
 }
 
 // The label of a record that was found; of none, what is no label.
-fn label_in(found: RecordFound) -> u64
+fn label_in(found: Option<TemplateRecord>) -> u64
     ensures { result ≡ label_or_none (label_in found) }
 {
     match found {
-        RecordFound::At(template) => template.label,
-        RecordFound::Nothing => LABELS as u64,
+        Some(template) => template.label,
+        None => LABELS as u64,
     }
 }
 
 // Whether it is certain that no body goes as expired: with no time to live, or where only the id's bodies can and as
 // many of them are live as its record counts.
-fn none_expires(ttl: Ttl, all: bool, count: u64, live: usize) -> bool
+fn none_expires(ttl: Option<u64>, all: bool, count: u64, live: usize) -> bool
     ensures { result ≡ none_expires ttl all count live }
 {
-    let Ttl::After(_) = ttl else {
+    let Some(_) = ttl else {
         return true;
     };
     if all {

@@ -1,12 +1,11 @@
 -- The words once a header is written. Assumes nothing.
+use Rattle.std.proofs.Common.{Option, Some, None}
 use mathlib.Core.Path.{◌≡◌, ap, ◌∙◌}
 use mathlib.Core.List.{List, ◌++◌}
 use Prim.Native.Nat.{ℕ, ◌+◌, ◌-◌, ◌≤◌}
 use native.Mathlib.Omega.{arith}
 use lib.ListN.{length, drop, length-drop}
 use lib.Seq.{drop-drop, drop-append-add}
-use Rattle.config.specs.declared.Ttl.{Ttl}
-use Rattle.config.specs.declared.Ttl.TheVariants.{None, After}
 use Rattle.config.specs.declared.PendingFlowsConfig.{PendingFlowsConfig}
 use Rattle.table.specs.Layout.{ttl_set, limits_of}
 use Rattle.cache_model.specs.Told.{limits_of as limits_from}
@@ -21,14 +20,14 @@ module _ (l : PendingFlowsConfig) (f : HeaderFigures) (w : List ℕ) where
   pub headed_flag : ttl_set (headed l f w) ≤ 1
   headed_flag = small l.ttl
     where
-      small : (t : Ttl) → ttl_flag t ≤ 1
+      small : (t : Option ℕ) → ttl_flag t ≤ 1
       small None = omega arith
-      small (After n) = omega arith
+      small (Some n) = omega arith
 
   pub headed_limits : limits_of (headed l f w) ≡ l
   headed_limits =
       ap
-      (λ (t : Ttl).
+      (λ (t : Option ℕ).
       limits_from l.max_pending_flows l.max_entries_per_template l.max_entry_size_bytes
       l.max_total_bytes t)
       (ttl_back l.ttl)

@@ -1,5 +1,6 @@
 -- The removal where all bodies of a record go or none, but for the expired ones of one label, with the limits and the
 -- figures that were read: what the records count is what a count of the entries would come to. Assumes nothing.
+use Rattle.std.proofs.Common.{Option}
 use mathlib.Core.Path.{◌≡◌, refl, sym, ap, ◌∙◌}
 use mathlib.Core.Bool.{Bool, true, false, cond}
 use mathlib.Core.List.{List}
@@ -10,7 +11,6 @@ use native.Mathlib.Decide.{ℕ_discrete}
 use lib.ListN.{length, get_or, set, drop, length-drop, length-set, length-replicate, get_or-replicate}
 use lib.Seq.{ext_get_or, get_or-set_same, get_or-set_other}
 use borrow.Author.Tests.{eqb-true, eqb-false, ne_eqb, le-leb}
-use Rattle.config.specs.declared.Ttl.{Ttl}
 use Rattle.config.specs.declared.PendingFlowsConfig.{PendingFlowsConfig}
 use Rattle.config.specs.Limits.{entry_words}
 use Rattle.config.proofs.Lists.{All, all_both}
@@ -47,7 +47,7 @@ use Rattle.pending_calls.proofs.RemovedLemmas.{records_within}
 use Rattle.pending_calls.proofs.NoneRemoved.{entries_short}
 
 -- where the expired bodies of one label go, all bodies of another stay
-pub others_stay : (b : List ℕ) (ttl : Ttl) (now a : ℕ) (es : List Entry) → Within (length b) es →
+pub others_stay : (b : List ℕ) (ttl : Option ℕ) (now a : ℕ) (es : List Entry) → Within (length b) es →
     All (λ e. e.len ≤ len_most) es → (k : ℕ) → (a ≡ k → ⊥) →
     keep (body_stays (unexpired ttl now a) k) (bodies_at b k es) ≡ bodies_at b k es
 unfolding body_stays
@@ -159,7 +159,7 @@ module _ (w b : List ℕ) (ok : well_formed w (length b) ≡ true) {skip : List 
         (λ k small. label_kept everything k small (everything_stays b k es within short))
 
     -- the label whose expired bodies go is told by itself
-    counted_but_lem : (ttl : Ttl) (now a live : ℕ) → live ≡ tally a (swept (unexpired ttl now a) skip es) →
+    counted_but_lem : (ttl : Option ℕ) (now a live : ℕ) → live ≡ tally a (swept (unexpired ttl now a) skip es) →
         set told a live ≡ counted (swept (unexpired ttl now a) skip es)
     counted_but_lem ttl now a live stays =
         counted_by (unexpired ttl now a) (set told a live) (length-set told a live ∙ told_long)
@@ -183,7 +183,7 @@ module _ (w b : List ℕ) (ok : well_formed w (length b) ≡ true) {skip : List 
         (rw figures (omega arith), skips.long)
 
     -- how many of a label are told to stay
-    module _ (apart : ℕ) {f : HeaderFigures} (figures : f ≡ figures_at w) (ttl : Ttl) (now live : ℕ)
+    module _ (apart : ℕ) {f : HeaderFigures} (figures : f ≡ figures_at w) (ttl : Option ℕ) (now live : ℕ)
         (stays : live ≡ tally apart (swept (unexpired ttl now apart) skip (entries_from w entries_at f.entries))) where
       stays_read : live ≡ tally apart (swept (unexpired ttl now apart) skip es)
       stays_read = rw figures at stays
@@ -217,7 +217,7 @@ module _ (w b : List ℕ) (ok : well_formed w (length b) ≡ true) {skip : List 
       whole_removed all same s c long =
           removed_by everything (λ is. same ∙ is ∙ counted_whole) (rw all at s) c long
 
-      pub expired_removed : (ttl : Ttl) (now live : ℕ) →
+      pub expired_removed : (ttl : Option ℕ) (now live : ℕ) →
           live ≡ tally apart (swept (unexpired ttl now apart) skip (entries_from w entries_at f.entries)) →
           kept ≡ set kept₀ apart live → {q : StayTest} → q ≡ unexpired ttl now apart →
           KeepsOnly (swept q skip (entries_from w entries_at f.entries)) f.entries w w₁ left →

@@ -1,7 +1,6 @@
 -- A removal: entries are swept, records closed. It is decided before, by a test and by how many bodies are skipped.
+use Rattle.std.specs.Prelude.{Option, None}
 use Rattle.std.specs.Prelude.{◌≡◌, false, List, ℕ, ◌+◌, ◌*◌, ◌≤◌, ◌<◌, length, get_or, set, replicate, take, drop}
-use Rattle.config.specs.declared.Ttl.{Ttl}
-use Rattle.config.specs.declared.Ttl.TheVariants.{None}
 use Rattle.config.specs.Limits.{record_words}
 use Rattle.config.proofs.Lists.{All}
 use Rattle.table.specs.declared.Entry.{Entry}
@@ -16,7 +15,7 @@ use Rattle.table_records.specs.Close.{closed, positions, remapped, Closes}
 use Rattle.pending_calls.specs.declared.removal.Removed.{Removed}
 
 -- the expired bodies of a label go
-abbrev pub unexpired : Ttl → ℕ → ℕ → StayTest
+abbrev pub unexpired : Option ℕ → ℕ → ℕ → StayTest
 unexpired ttl clock label = record {
   ttl = ttl;
   clock = clock;

@@ -9,7 +9,7 @@ ghost use Rattle.pending_flows.specs.Header.{figures_at};
 ghost use Rattle.pending_calls.specs.Removal.{everything, unexpired, ClosesApart, SkipsWhole, Removes};
 ghost use Rattle.pending_calls.specs.Removal.{RemovesFrom};
 
-use config::{PendingFlowsConfig, Ttl};
+use config::{PendingFlowsConfig};
 use pending_flows::HeaderFigures;
 use table::{LABELS, records_at};
 use table_closing::close;
@@ -27,7 +27,7 @@ pub struct Removed {
 }
 
 // The test by which the expired bodies of a label go, and no others.
-pub fn label_test(ttl: Ttl, clock: u64, label: u64) -> StayTest
+pub fn label_test(ttl: Option<u64>, clock: u64, label: u64) -> StayTest
     ensures { result ≡ unexpired ttl clock label }
 {
     StayTest {
@@ -43,7 +43,7 @@ pub fn label_test(ttl: Ttl, clock: u64, label: u64) -> StayTest
 pub fn stay_all() -> StayTest
     ensures { result ≡ everything }
 {
-    label_test(Ttl::None, 0, LABELS as u64)
+    label_test(None, 0, LABELS as u64)
 }
 
 // Closes the records by how many bodies each label has kept; the record of the label `apart` goes, and what it kept is

@@ -1,5 +1,6 @@
 -- What a drain takes out of records and entries that belong together: the templates of the other ids are left, and of
 -- the id the bodies that are not expired. Assumes nothing.
+use Rattle.std.proofs.Common.{Option}
 use mathlib.Core.Path.{◌≡◌, refl, sym, ap, ◌∙◌}
 use mathlib.Core.Logic.{◌≢◌}
 use mathlib.Core.Bool.{Bool, true, false, not, cond}
@@ -11,7 +12,6 @@ use lib.Dec.{eqb}
 use lib.ListN.{length, get_or, drop, length-drop, get_or-replicate}
 use lib.Seq.{get_or-set_other}
 use borrow.Author.Tests.{eqb-true, eqb-false, eq-eqb}
-use Rattle.config.specs.declared.Ttl.{Ttl}
 use Rattle.config.proofs.Lists.{All, all_map, all_both, all_front, all_back}
 use Rattle.table.specs.declared.Entry.{Entry}
 use Rattle.table.specs.declared.TemplateRecord.{TemplateRecord}
@@ -46,7 +46,7 @@ use Rattle.pending_drain.specs.Handing.{zeros}
 use Rattle.pending_drain.proofs.Handing.{length_zeros}
 use Rattle.pending_drain.proofs.Staying.{live_stay, kept_few}
 
-module _ (b : List ℕ) (ttl : Ttl) (i now : ℕ) (held handed : List TemplateRecord) (es : List Entry) where
+module _ (b : List ℕ) (ttl : Option ℕ) (i now : ℕ) (held handed : List TemplateRecord) (es : List Entry) where
   -- the label of the id, which bodies stay, the entries that are left, and how many each other label has left
   abbrev pub label : ℕ
   label = label_for i held

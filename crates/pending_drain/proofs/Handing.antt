@@ -1,10 +1,10 @@
 -- The record of what is handed out, and the removal before. Assumes nothing.
+use Rattle.std.proofs.Common.{Option}
 use mathlib.Core.Path.{◌≡◌, refl, subst}
 use mathlib.Core.List.{List}
 use Prim.Native.Nat.{ℕ, ◌+◌, ◌*◌}
 use native.Mathlib.Omega.{arith}
 use lib.ListN.{length, length-replicate}
-use Rattle.config.specs.declared.Ttl.{Ttl}
 use Rattle.config.specs.Limits.{record_words}
 use Rattle.table.specs.declared.TemplateRecord.{TemplateRecord}
 use Rattle.table.specs.Table.{records_from}
@@ -31,7 +31,7 @@ pub nothing_skipped : (p : ℕ) (f : HeaderFigures) (w : List ℕ) → f.chance 
 unfolding set_each records_from
 nothing_skipped p f w none = rw none
 
-pub taken_out : (ttl : Ttl) (clock label p : ℕ) (f : HeaderFigures) (w w' : List ℕ) (r : Removed) {skip : List ℕ} →
+pub taken_out : (ttl : Option ℕ) (clock label p : ℕ) (f : HeaderFigures) (w w' : List ℕ) (r : Removed) {skip : List ℕ} →
     skip ≡ skipping zeros (records_from w (p + record_words * f.templates) f.chance) →
     Removes (unexpired ttl clock label) p (f.templates + f.chance) f.entries label skip w w' r →
     TakesOut ttl clock label p f w w' r

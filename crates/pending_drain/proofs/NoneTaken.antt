@@ -1,4 +1,5 @@
 -- A drain where no body goes: it takes out the record of the label alone. Assumes nothing.
+use Rattle.std.proofs.Common.{Some}
 use mathlib.Core.Path.{◌≡◌, refl, sym, ◌∙◌}
 use mathlib.Core.Bool.{Bool, true, false, cond}
 use mathlib.Core.List.{List, [], ◌∷◌, ◌++◌}
@@ -11,7 +12,6 @@ use Rattle.config.specs.declared.PendingFlowsConfig.{PendingFlowsConfig}
 use Rattle.config.proofs.Lists.{All, all_front}
 use Rattle.table.specs.declared.Entry.{Entry}
 use Rattle.table.specs.declared.TemplateRecord.{TemplateRecord}
-use Rattle.table.specs.declared.LabelFound.TheVariants as Label
 use Rattle.table.specs.Layout.{limits_of, held_count, chance_count, entries_at, records_at}
 use Rattle.table.specs.Table.{table_of, entries_from, records_from, tally}
 use Rattle.table.specs.Reads.{label_of, label_or_none, count_of, live_count}
@@ -46,7 +46,7 @@ counts_label i es [] right none = sym none
 counts_label i es (r ∷ rs) right none = by_key (eqb i r.key) (counts_label i es rs right.1 none)
   where
     by_key : (t : Bool) → count_of i rs ≡ tally (label_for i rs) es →
-        cond t r.count (count_of i rs) ≡ tally (label_or_none (cond t (Label.At r.label) (label_of i rs))) es
+        cond t r.count (count_of i rs) ≡ tally (label_or_none (cond t (Some r.label) (label_of i rs))) es
     by_key true ih = right.0
     by_key false ih = ih
 

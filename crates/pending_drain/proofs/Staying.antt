@@ -1,4 +1,5 @@
 -- Which bodies of a label stay, where its expired bodies go: those that are not expired. Assumes nothing.
+use Rattle.std.proofs.Common.{Option}
 use mathlib.Core.Path.{◌≡◌, refl}
 use mathlib.Core.Bool.{Bool, not, and-true}
 use mathlib.Core.List.{List}
@@ -6,7 +7,6 @@ use Prim.Native.Nat.{ℕ, ◌≤◌}
 use native.Mathlib.Omega.{arith}
 use lib.ListN.{length}
 use borrow.Author.Tests.{eq-eqb, le-leb}
-use Rattle.config.specs.declared.Ttl.{Ttl}
 use Rattle.config.proofs.Lists.{All, all_both}
 use Rattle.table.specs.declared.Entry.{Entry}
 use Rattle.table.proofs.Labels.{tally_most}
@@ -19,7 +19,7 @@ use Rattle.table_view.proofs.Swept.{body_stays, Within, body_size, keep_alike}
 use Rattle.table_view.proofs.Summed.{len_most}
 use Rattle.pending_calls.specs.Removal.{unexpired}
 
-module _ (b : List ℕ) (ttl : Ttl) (now a : ℕ) (es : List Entry) (within : Within (length b) es)
+module _ (b : List ℕ) (ttl : Option ℕ) (now a : ℕ) (es : List Entry) (within : Within (length b) es)
     (short : All (λ e. e.len ≤ len_most) es) where
   pub live_stay : keep (body_stays (unexpired ttl now a) a) (bodies_at b a es)
       ≡ keep (λ x. not (expired ttl now x)) (bodies_at b a es)

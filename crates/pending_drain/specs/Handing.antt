@@ -1,7 +1,7 @@
 -- The steps of a drain on the table: what is taken out of the rows, and the record of what is
--- handed out. They stand here because the contracts of the steps cite them.
+-- handed out. They stand here because Rattle.std.specs.Prelude.{Option}
+use the contracts of the steps cite them.
 use Rattle.std.specs.Prelude.{◌≡◌, List, ℕ, ◌+◌, ◌*◌, ◌<◌, replicate}
-use Rattle.config.specs.declared.Ttl.{Ttl}
 use Rattle.config.specs.Limits.{record_words}
 use Rattle.table.specs.declared.TemplateRecord.{TemplateRecord}
 use Rattle.table.specs.Table.{records_from}
@@ -16,7 +16,7 @@ zeros = replicate 1024 0
 
 -- what is handed out already goes, the expired bodies of a label and the label's record; from word p on stand the
 -- records, the handed-out one behind the held ones
-abbrev pub TakesOut : Ttl → ℕ → ℕ → ℕ → HeaderFigures → List ℕ → List ℕ → Removed → Type 0
+abbrev pub TakesOut : Option ℕ → ℕ → ℕ → ℕ → HeaderFigures → List ℕ → List ℕ → Removed → Type 0
 TakesOut ttl clock label p f w w' r =
     let q = unexpired ttl clock label in
     let skip = skipping zeros (records_from w (p + record_words * f.templates) f.chance) in

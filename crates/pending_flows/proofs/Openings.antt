@@ -1,4 +1,6 @@
 -- Areas before and after an opening. Assumes nothing.
+use Rattle.std.proofs.Common.{Option, Some, None, Result, Ok, Err}
+use Rattle.std.specs.Prelude.{⊤}
 use mathlib.Core.Path.{◌≡◌, refl, ap, sym, ◌∙◌}
 use mathlib.Core.Bool.{true, false}
 use mathlib.Core.List.{List, [], ◌∷◌, ◌++◌}
@@ -10,13 +12,9 @@ use lib.ListN.{length, drop, length-drop}
 use lib.Seq.{drop-drop, drop-append-add}
 use borrow.Author.Tests.{le-leb, eq-eqb}
 use Rattle.areas.specs.Overwrite.{overwritten}
-use Rattle.config.specs.declared.Ttl.{Ttl}
-use Rattle.config.specs.declared.Ttl.TheVariants.{None, After}
 use Rattle.config.specs.declared.PendingFlowsConfig.{PendingFlowsConfig}
 use Rattle.config.specs.declared.ConfigRefusal.{ConfigRefusal}
 use Rattle.config.specs.declared.ConfigRefusal.TheVariants.{NoTemplates, NoEntries, EntrySize, TotalBytes, Areas}
-use Rattle.config.specs.declared.ConfigAnswer.{ConfigAnswer}
-use Rattle.config.specs.declared.ConfigAnswer.TheVariants.{Accepted, Refused}
 use Rattle.config.specs.Limits.{answer_number, refusal_number, config_number, header_words, words_needed, max_bodies}
 use Rattle.config.proofs.Limits.{limits_say}
 use Rattle.table.specs.Layout.{ttl_of, limits_of}
@@ -34,18 +32,18 @@ use Rattle.pending_flows.specs.Opening.{Opens}
 abbrev opened_words : PendingFlowsConfig → List ℕ → List ℕ
 opened_words l w = opened_header l ++ drop 12 w
 
-pub ttl_back : (t : Ttl) → ttl_of (ttl_flag t) (ttl_word t) ≡ t
+pub ttl_back : (t : Option ℕ) → ttl_of (ttl_flag t) (ttl_word t) ≡ t
 ttl_back None = refl
-ttl_back (After n) = refl
+ttl_back (Some n) = refl
 
-flag_small : (t : Ttl) → leb (ttl_flag t) 1 ≡ true
+flag_small : (t : Option ℕ) → leb (ttl_flag t) 1 ≡ true
 flag_small None = refl
-flag_small (After n) = refl
+flag_small (Some n) = refl
 
 limits_back : (l : PendingFlowsConfig) (w : List ℕ) → limits_of (opened_words l w) ≡ l
 limits_back l w =
     ap
-    (λ (t : Ttl).
+    (λ (t : Option ℕ).
     limits_from l.max_pending_flows l.max_entries_per_template l.max_entry_size_bytes
     l.max_total_bytes t)
     (ttl_back l.ttl)
@@ -78,7 +76,7 @@ module _ (l : PendingFlowsConfig) (w b : List ℕ) (ok : config_number l (length
       )
 
 -- a refused opening changes nothing
-pub opening_refused : (l : PendingFlowsConfig) (w b : List ℕ) (a : ConfigAnswer) (n : ConfigRefusal) → a ≡ Refused n →
+pub opening_refused : (l : PendingFlowsConfig) (w b : List ℕ) (a : Result ⊤ ConfigRefusal) (n : ConfigRefusal) → a ≡ Err n →
     answer_number a ≡ config_number l (length b) (length w) → Opens l (areas_of w b) a (areas_of w b)
 unfolding opening
 opening_refused l w b a n e f =
@@ -102,7 +100,7 @@ opening_refused l w b a n e f =
     not_zero Areas = refl
 
 -- an accepted one writes the header
-pub opening_done : (l : PendingFlowsConfig) (w b w' : List ℕ) (a : ConfigAnswer) → a ≡ Accepted →
+pub opening_done : (l : PendingFlowsConfig) (w b w' : List ℕ) (a : Result ⊤ ConfigRefusal) → a ≡ (Ok tt) →
     answer_number a ≡ config_number l (length b) (length w) → w' ≡ overwritten w (opened_header l) →
     Opens l (areas_of w b) a (areas_of w' b)
 unfolding overwritten opening
@@ -119,7 +117,7 @@ opening_done l w b w' a e f g =
     })
 
 -- legal limits leave room for the header
-pub header_fits : (l : PendingFlowsConfig) (w b : List ℕ) (a : ConfigAnswer) → a ≡ Accepted →
+pub header_fits : (l : PendingFlowsConfig) (w b : List ℕ) (a : Result ⊤ ConfigRefusal) → a ≡ (Ok tt) →
     answer_number a ≡ config_number l (length b) (length w) → header_words ≤ length w
 header_fits l w b a e f = omega (arith, room l w b (sym f ∙ ap answer_number e))
 

@@ -1,4 +1,5 @@
 -- The templates that records and entries stand for: their bodies by label, counted and looked up. Assumes nothing.
+use Rattle.std.proofs.Common.{Option, Some, None}
 use mathlib.Core.Path.{◌≡◌, refl, ap, ◌∙◌, sym}
 use mathlib.Core.Bool.{Bool, true, false, not, ◌&&◌, cond}
 use mathlib.Core.List.{List, [], ◌∷◌}
@@ -6,13 +7,10 @@ use Prim.Native.Nat.{ℕ, suc, ◌+◌}
 use native.Mathlib.Omega.{arith}
 use lib.Dec.{eqb}
 use lib.ListN.{length, length-append}
-use Rattle.config.specs.declared.Ttl.{Ttl}
 use Rattle.config.specs.Age.{expired_at}
 use Rattle.config.proofs.Lists.{All}
 use Rattle.table.specs.declared.Entry.{Entry}
 use Rattle.table.specs.declared.TemplateRecord.{TemplateRecord}
-use Rattle.table.specs.declared.LabelFound.{LabelFound}
-use Rattle.table.specs.declared.LabelFound.TheVariants as Label
 use Rattle.table.specs.Table.{tally}
 use Rattle.table.specs.Reads.{label_of, live_count, count_sum, label_or_none}
 use Rattle.cache_model.specs.Bodies.{Body, keep, all_bodies, bodies_of, expired}
@@ -39,7 +37,7 @@ module _ (bytes : List ℕ) where
       empty (b ∷ bs) e = absurd (omega arith)
 
   -- as many unexpired bodies as live entries
-  pub live_bodies_lem : (ttl : Ttl) (now k : ℕ) (es : List Entry) →
+  pub live_bodies_lem : (ttl : Option ℕ) (now k : ℕ) (es : List Entry) →
       live_count ttl now k es ≡ length (keep (λ b. not (expired ttl now b)) (bodies_at bytes k es))
   unfolding live_count
   live_bodies_lem ttl now k [] = refl
@@ -58,9 +56,9 @@ module _ (bytes : List ℕ) where
       by_tests false x h ih = omega arith
 
   -- the bodies of what was found for an id
-  abbrev pub bodies_of_label : LabelFound → List Entry → List Body
-  bodies_of_label Label.Nothing es = []
-  bodies_of_label (Label.At k) es = bodies_at bytes k es
+  abbrev pub bodies_of_label : Option ℕ → List Entry → List Body
+  bodies_of_label None es = []
+  bodies_of_label (Some k) es = bodies_at bytes k es
 
   pub bodies_of_id : (i : ℕ) (es : List Entry) (rs : List TemplateRecord) →
       bodies_of i (templates_at bytes es rs) ≡ bodies_of_label (label_of i rs) es
@@ -70,7 +68,7 @@ module _ (bytes : List ℕ) where
     where
       by_key : (b : Bool) → bodies_of i (templates_at bytes es rs) ≡ bodies_of_label (label_of i rs) es →
           cond b (bodies_at bytes r.label es) (bodies_of i (templates_at bytes es rs))
-          ≡ bodies_of_label (cond b (Label.At r.label) (label_of i rs)) es
+          ≡ bodies_of_label (cond b (Some r.label) (label_of i rs)) es
       by_key true ih = refl
       by_key false ih = ih
 
@@ -79,9 +77,9 @@ module _ (bytes : List ℕ) where
       bodies_of i (templates_at bytes es rs) ≡ bodies_at bytes (label_or_none (label_of i rs)) es
   found_bodies i es rs none = bodies_of_id i es rs ∙ by_label (label_of i rs)
     where
-      by_label : (found : LabelFound) → bodies_of_label found es ≡ bodies_at bytes (label_or_none found) es
-      by_label (Label.At k) = refl
-      by_label Label.Nothing = sym (no_bodies 1024 es none)
+      by_label : (found : Option ℕ) → bodies_of_label found es ≡ bodies_at bytes (label_or_none found) es
+      by_label (Some k) = refl
+      by_label None = sym (no_bodies 1024 es none)
 
   -- as many templates as records
   pub length_templates : (es : List Entry) (rs : List TemplateRecord) → length (templates_at bytes es rs) ≡ length rs

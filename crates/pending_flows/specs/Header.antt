@@ -1,19 +1,18 @@
 -- The header of a cache: the first words, in the layout's order.
+use Rattle.std.specs.Prelude.{Option, Some, None}
 use Rattle.std.specs.Prelude.{List, [], ◌∷◌, ℕ}
-use Rattle.config.specs.declared.Ttl.{Ttl}
-use Rattle.config.specs.declared.Ttl.TheVariants.{None, After}
 use Rattle.config.specs.declared.PendingFlowsConfig.{PendingFlowsConfig}
 use Rattle.table.specs.Layout.{cached_word, dropped_word, total_word, held_count, entry_count, chance_count}
 use Rattle.pending_flows.specs.declared.header.HeaderFigures.{HeaderFigures}
 
 -- whether a TTL is set, and the TTL, as words
-abbrev pub ttl_flag : Ttl → ℕ
+abbrev pub ttl_flag : Option ℕ → ℕ
 ttl_flag None = 0
-ttl_flag (After t) = 1
+ttl_flag (Some t) = 1
 
-abbrev pub ttl_word : Ttl → ℕ
+abbrev pub ttl_word : Option ℕ → ℕ
 ttl_word None = 0
-ttl_word (After t) = t
+ttl_word (Some t) = t
 
 -- the word of `pending_dropped`
 abbrev pub dropped_at : ℕ

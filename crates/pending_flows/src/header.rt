@@ -4,7 +4,7 @@ ghost use Rattle.areas.specs.Overwrite.{overwritten};
 ghost use Rattle.config.specs.Limits.{header_words};
 ghost use Rattle.pending_flows.specs.Header.{ttl_flag, ttl_word, figures_at, header_of};
 
-use config::{PendingFlowsConfig, Ttl};
+use config::{PendingFlowsConfig};
 use table::{CACHED, CHANCE_COUNT, DROPPED, ENTRY_COUNT, HELD_COUNT, TOTAL};
 
 // The header's words behind the limits.
@@ -20,22 +20,22 @@ pub struct HeaderFigures {
 }
 
 // Whether a TTL is set, as a word.
-fn ttl_set(ttl: Ttl) -> u64
+fn ttl_set(ttl: Option<u64>) -> u64
     ensures { result ≡ ttl_flag ttl }
 {
     match ttl {
-        Ttl::None => 0,
-        Ttl::After(_) => 1,
+        None => 0,
+        Some(_) => 1,
     }
 }
 
 // The TTL, or 0 where none is set.
-fn ttl_word(ttl: Ttl) -> u64
+fn ttl_word(ttl: Option<u64>) -> u64
     ensures { result ≡ ttl_word ttl }
 {
     match ttl {
-        Ttl::None => 0,
-        Ttl::After(ttl) => ttl,
+        None => 0,
+        Some(ttl) => ttl,
     }
 }
 

@@ -3,15 +3,15 @@ ghost use Rattle.pending_flows.specs.View.{areas_of};
 ghost use Rattle.pending_flows.specs.Opening.{Opens};
 
 use super::header::{HeaderFigures, write_header};
-use config::{ConfigAnswer, PendingFlowsConfig};
+use config::{PendingFlowsConfig};
 
 // Opens an empty cache with both counters 0 in areas with any content, or refuses the limits.
-pub fn open(config: PendingFlowsConfig, words: &mut [u64], bytes: &[u8]) -> ConfigAnswer
+pub fn open(config: PendingFlowsConfig, words: &mut [u64], bytes: &[u8]) -> Result<(), ConfigRefusal>
     ensures { Opens config (areas_of words.old bytes.now) result
         (areas_of words.new bytes.now) }
 {
     let answer = config::validate_config(config, bytes.len(), words.len());
-    let ConfigAnswer::Accepted = answer else {
+    let Ok(()) = answer else {
         return answer;
     };
     let empty = HeaderFigures {

@@ -1,4 +1,6 @@
 -- Handed-out bodies, by the entries of the handed-out record. Assumes nothing.
+use Rattle.std.proofs.Common.{Option, Some, None, Result, Ok, Err}
+use Rattle.table.specs.declared.Damaged.{Damaged}
 use mathlib.Core.Path.{◌≡◌, refl, ap, sym, ◌∙◌}
 use mathlib.Core.Bool.{Bool, true, false, ◌&&◌, cond}
 use mathlib.Core.List.{List, [], ◌∷◌}
@@ -12,12 +14,8 @@ use borrow.Author.Tests.{lt-ltb, le-ltb, ne_eqb}
 use Rattle.config.proofs.Lists.{All}
 use Rattle.table.specs.declared.Entry.{Entry}
 use Rattle.table.specs.declared.TemplateRecord.{TemplateRecord}
-use Rattle.table_watch.specs.declared.EntryFound.{EntryFound}
-use Rattle.table_watch.specs.declared.EntryFound.TheVariants as Found
 use Rattle.table_watch.specs.declared.Sought.TheVariants as Sought
 use Rattle.table_watch.specs.declared.LabelSeen.{LabelSeen}
-use Rattle.table_watch.specs.declared.TableSeen.{TableSeen}
-use Rattle.table_watch.specs.declared.TableSeen.TheVariants as Seen
 use Rattle.table_watch.specs.declared.Watch.{Watch}
 use Rattle.table.specs.Layout.{limits_of}
 use Rattle.table.specs.Table.{table_of, tally}
@@ -46,9 +44,9 @@ use Rattle.pending_queries.proofs.Answers.{answered, seen_damaged, seen_legal}
 
 module _ (bytes : List ℕ) where
   -- the n-th body of a label, by the n-th entry
-  abbrev NthBody : ℕ → List Body → EntryFound → Type 0
-  NthBody n bs Found.Nothing = length bs ≤ n
-  NthBody n bs (Found.At e) = (n < length bs) × (get_or bs n no_body ≡ body_at bytes e)
+  abbrev NthBody : ℕ → List Body → Option Entry → Type 0
+  NthBody n bs None = length bs ≤ n
+  NthBody n bs (Some e) = (n < length bs) × (get_or bs n no_body ≡ body_at bytes e)
 
   nth_body : (k n nth : ℕ) (es : List Entry) →
       NthBody n (bodies_at bytes k es) (nth_watched (watch_of k 0 nth) n es)
@@ -59,42 +57,42 @@ module _ (bytes : List ℕ) where
       bs : List Body
       bs = bodies_at bytes k es
 
-      later : ℕ → EntryFound
+      later : ℕ → Option Entry
       later m = nth_watched (watch_of k 0 nth) m es
 
-      further : (m : ℕ) (x : EntryFound) → NthBody m bs x → NthBody (suc m) (body_at bytes e ∷ bs) x
-      further m Found.Nothing h = omega arith
-      further m (Found.At f) h = (omega (arith, h.0), h.1)
+      further : (m : ℕ) (x : Option Entry) → NthBody m bs x → NthBody (suc m) (body_at bytes e ∷ bs) x
+      further m None h = omega arith
+      further m (Some f) h = (omega (arith, h.0), h.1)
 
       counted : (n : ℕ) → ((m : ℕ) → NthBody m bs (later m)) →
-          NthBody n (body_at bytes e ∷ bs) (cond (eqb n 0) (Found.At e) (later (n - 1)))
+          NthBody n (body_at bytes e ∷ bs) (cond (eqb n 0) (Some e) (later (n - 1)))
       counted zero ih = (omega arith, refl)
       counted (suc m) ih = let z : suc m - 1 ≡ m = omega arith in rw (z, ne_eqb (suc m) 0 (λ q. omega arith))
           (further m (later m) (ih m))
 
       by_label : (b : Bool) → ((m : ℕ) → NthBody m bs (later m)) →
           NthBody n (cond b (body_at bytes e ∷ bs) bs)
-          (cond (b && true) (cond (eqb n 0) (Found.At e) (later (n - 1))) (later n))
+          (cond (b && true) (cond (eqb n 0) (Some e) (later (n - 1))) (later n))
       by_label true ih = counted n ih
       by_label false ih = ih n
 
 -- what holds of every entry holds of one that is found
 found_all : (P : Entry → Type 0) (v : Watch) (n : ℕ) (es : List Entry) (e : Entry) → All P es →
-    nth_watched v n es ≡ Found.At e → P e
+    nth_watched v n es ≡ Some e → P e
 unfolding nth_watched
 found_all P v n [] e a h = let z : ◌≡◌ {A = ℕ} 0 1 = cc in absurd (omega arith)
 found_all P v n (x ∷ es) e a h = by_test (is_watched v x) h (λ m. found_all P v m es e a.1)
   where
-    later : ℕ → EntryFound
+    later : ℕ → Option Entry
     later m = nth_watched v m es
 
-    by_count : (b : Bool) → cond b (Found.At x) (later (n - 1)) ≡ Found.At e →
-        ((m : ℕ) → later m ≡ Found.At e → P e) → P e
+    by_count : (b : Bool) → cond b (Some x) (later (n - 1)) ≡ Some e →
+        ((m : ℕ) → later m ≡ Some e → P e) → P e
     by_count true g rest = let same : x ≡ e = cc in rw (← same) a.0
     by_count false g rest = rest (n - 1) g
 
-    by_test : (b : Bool) → cond b (cond (eqb n 0) (Found.At x) (later (n - 1))) (later n) ≡ Found.At e →
-        ((m : ℕ) → later m ≡ Found.At e → P e) → P e
+    by_test : (b : Bool) → cond b (cond (eqb n 0) (Some x) (later (n - 1))) (later n) ≡ Some e →
+        ((m : ℕ) → later m ≡ Some e → P e) → P e
     by_test true g rest = by_count (eqb n 0) g rest
     by_test false g rest = rest n g
 
@@ -109,13 +107,13 @@ chance_bodies bytes es [] unused = sym (no_bodies bytes 1024 es unused)
 chance_bodies bytes es (r ∷ rs) unused = refl
 
 -- the entry that was found, or none, for handed-out body k of a well-formed cache
-record Finds (w b : List ℕ) (k : ℕ) (r : EntryFound) : Type 0 where
-  absent : r ≡ Found.Nothing → length (cache_of (table_of w) b).chance.bodies ≤ k
-  counted : (e : Entry) → r ≡ Found.At e → k < length (cache_of (table_of w) b).chance.bodies
-  holds : (e : Entry) → r ≡ Found.At e → take e.len (drop e.place b) ≡ (handed_out k (cache_of (table_of w) b)).bytes
-  within : (e : Entry) → r ≡ Found.At e → e.place + e.len ≤ (limits_of w).max_total_bytes
+record Finds (w b : List ℕ) (k : ℕ) (r : Option Entry) : Type 0 where
+  absent : r ≡ None → length (cache_of (table_of w) b).chance.bodies ≤ k
+  counted : (e : Entry) → r ≡ Some e → k < length (cache_of (table_of w) b).chance.bodies
+  holds : (e : Entry) → r ≡ Some e → take e.len (drop e.place b) ≡ (handed_out k (cache_of (table_of w) b)).bytes
+  within : (e : Entry) → r ≡ Some e → e.place + e.len ≤ (limits_of w).max_total_bytes
 
-module _ (w b : List ℕ) (k : ℕ) (r : EntryFound) (ok : well_formed w (length b) ≡ true)
+module _ (w b : List ℕ) (k : ℕ) (r : Option Entry) (ok : well_formed w (length b) ≡ true)
     (sought : r ≡ nth_watched (watch_of (first_label (table_of w).handed) 0 k) k (table_of w).entries) where
   abbrev out : ℕ
   out = first_label (table_of w).handed
@@ -126,7 +124,7 @@ module _ (w b : List ℕ) (k : ℕ) (r : EntryFound) (ok : well_formed w (length
   handed_bodies : (cache_of (table_of w) b).chance.bodies ≡ bodies_at b out (table_of w).entries
   handed_bodies = chance_bodies b (table_of w).entries (table_of w).handed (none_unlabelled w (length b) ok)
 
-  nth_is : {x : EntryFound} → r ≡ x → NthBody b k (bodies_at b out (table_of w).entries) x
+  nth_is : {x : Option Entry} → r ≡ x → NthBody b k (bodies_at b out (table_of w).entries) x
   nth_is h = rw (sym sought ∙ h) at (nth_body b out k k (table_of w).entries)
 
   finds : Finds w b k r
@@ -141,8 +139,8 @@ module _ (w b : List ℕ) (k : ℕ) (r : EntryFound) (ok : well_formed w (length
   }
 
 -- The call for a place on a well-formed cache, by the entry that was found: x is the table that was tested.
-module _ (w b : List ℕ) (k : ℕ) {x : TableSeen} {s : LabelSeen} {r : EntryFound}
-    (tested : x ≡ examined w (length b) (Sought.HandedOut k)) (seen : x ≡ Seen.WellFormed s) (is : r ≡ s.found) where
+module _ (w b : List ℕ) (k : ℕ) {x : Result LabelSeen Damaged} {s : LabelSeen} {r : Option Entry}
+    (tested : x ≡ examined w (length b) (Sought.HandedOut k)) (seen : x ≡ Ok s) (is : r ≡ s.found) where
   ok : well_formed w (length b) ≡ true
   ok = seen_legal w b (Sought.HandedOut k) tested seen
 
@@ -162,7 +160,7 @@ module _ (w b : List ℕ) (k : ℕ) {x : TableSeen} {s : LabelSeen} {r : EntryFo
       some_is : some (cache_of (table_of w) b) ≡ some c → cache_of (table_of w) b ≡ c
       some_is h = cc
 
-  pub not_handed_out : r ≡ Found.Nothing →
+  pub not_handed_out : r ≡ None →
       PlacesHandedOut (areas_of w b) k (Place.Refused Refusal.NotHandedOut) (areas_of w b)
   unfolding place_handed_out
   not_handed_out h = record {
@@ -179,7 +177,7 @@ module _ (w b : List ℕ) (k : ℕ) {x : TableSeen} {s : LabelSeen} {r : EntryFo
   abbrev place_of : Entry → BodyPlace
   place_of e = record { place = e.place; len = e.len }
 
-  pub handed_out_at : (e : Entry) → r ≡ Found.At e →
+  pub handed_out_at : (e : Entry) → r ≡ Some e →
       PlacesHandedOut (areas_of w b) k (Place.At (place_of e)) (areas_of w b)
   unfolding place_handed_out
   handed_out_at e h = record {
@@ -192,18 +190,18 @@ module _ (w b : List ℕ) (k : ℕ) {x : TableSeen} {s : LabelSeen} {r : EntryFo
     unchanged = refl;
   }
     where
-      ends : (e : Entry) → r ≡ Found.At e → e.place + e.len ≤ length b
+      ends : (e : Entry) → r ≡ Some e → e.place + e.len ≤ length b
       ends e h =
           let legal : LegalWords w (length b) = words_say w (length b) ok in
           omega (arith, found.within e h, legal.limits_legal_lem.bytes_enough)
 
-      long : (e : Entry) → r ≡ Found.At e → e.len ≡ length (handed_out k (cache_of (table_of w) b)).bytes
+      long : (e : Entry) → r ≡ Some e → e.len ≡ length (handed_out k (cache_of (table_of w) b)).bytes
       long e h =
           sym (length-take-le e.len (drop e.place b) (omega (arith, ends e h, length-drop e.place b)))
           ∙ ap length (found.holds e h)
 
-pub place_damaged : (w b : List ℕ) (k : ℕ) {x : TableSeen} → x ≡ examined w (length b) (Sought.HandedOut k) →
-    x ≡ Seen.Damaged → PlacesHandedOut (areas_of w b) k (Place.Refused Refusal.Damaged) (areas_of w b)
+pub place_damaged : (w b : List ℕ) (k : ℕ) {x : Result LabelSeen Damaged} → x ≡ examined w (length b) (Sought.HandedOut k) →
+    x ≡ (Err Damaged) → PlacesHandedOut (areas_of w b) k (Place.Refused Refusal.Damaged) (areas_of w b)
 place_damaged w b k tested e = record {
   answer = seen_damaged w b (Sought.HandedOut k) tested (place_handed_out k) e;
   within = λ p g. other p g;

@@ -4,7 +4,7 @@
 ghost use Rattle.pending_flows.specs.View.{areas_of};
 ghost use Rattle.pending_handed_out.specs.HandedOut.{PlacesHandedOut, ReadsHandedOut};
 
-use table_watch::{EntryFound, Sought, TableSeen};
+use table_watch::Sought;
 
 // Where a body lies in the byte area.
 #[derive(Clone, Copy)]
@@ -34,12 +34,12 @@ pub fn place_handed_out(words: &[u64], bytes: &[u8], k: usize) -> PlaceAnswer
     ensures { PlacesHandedOut (areas_of words.now bytes.now) k result
         (areas_of words.now bytes.now) }
 {
-    let TableSeen::WellFormed(seen) = table_check::examine(words, bytes.len(), Sought::HandedOut(k))
+    let Ok(seen) = table_check::examine(words, bytes.len(), Sought::HandedOut(k))
     else {
         return PlaceAnswer::Refused(PlaceRefusal::Damaged);
     };
     let found = seen.found;
-    let EntryFound::At(entry) = found else {
+    let Some(entry) = found else {
         return PlaceAnswer::Refused(PlaceRefusal::NotHandedOut);
     };
     PlaceAnswer::At(BodyPlace {

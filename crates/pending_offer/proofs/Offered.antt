@@ -1,4 +1,6 @@
 -- The offer behind the tests of 6 and of 28. Assumes nothing.
+use Rattle.std.proofs.Common.{Result, Ok, Err}
+use Rattle.table.specs.declared.Damaged.{Damaged}
 use mathlib.Core.Path.{◌≡◌, refl, sym, ap}
 use mathlib.Core.Bool.{true}
 use mathlib.Core.List.{List}
@@ -12,8 +14,6 @@ use Rattle.table.specs.WellFormed.{well_formed}
 use Rattle.table.proofs.Facts.{words_say}
 use Rattle.table_watch.specs.declared.Sought.TheVariants as Sought
 use Rattle.table_watch.specs.declared.LabelSeen.{LabelSeen}
-use Rattle.table_watch.specs.declared.TableSeen.{TableSeen}
-use Rattle.table_watch.specs.declared.TableSeen.TheVariants as Seen
 use Rattle.table_watch.proofs.Verdicts.{is_damaged, is_legal}
 use Rattle.table_check.specs.Examined.{examined}
 use Rattle.table_check.proofs.LiveSought.{live_counted}
@@ -71,9 +71,9 @@ pub not_too_long : (w : List ℕ) (l : PendingFlowsConfig) (len : ℕ) → l ≡
 not_too_long w l len is h = omega (arith, ap (λ (k : PendingFlowsConfig). k.max_entry_size_bytes) is)
 
 -- the call, behind the test of 28 in which the id's live bodies are sought
-module _ (w b : List ℕ) (i : ℕ) (body : List ℕ) (clock : ℕ) {x : TableSeen}
+module _ (w b : List ℕ) (i : ℕ) (body : List ℕ) (clock : ℕ) {x : Result LabelSeen Damaged}
     (tested : x ≡ examined w (length b) (Sought.Live i clock)) where
-  pub offer_damaged : x ≡ Seen.Damaged → Offers i body clock (areas_of w b) (Offer.Refused Refusal.Damaged)
+  pub offer_damaged : x ≡ (Err Damaged) → Offers i body clock (areas_of w b) (Offer.Refused Refusal.Damaged)
       (areas_of w b)
   offer_damaged e = record {
     performs = damaged_performs w b (is_damaged (well_formed w (length b)) _ tested e) (offered i (body_of body clock))
@@ -82,7 +82,7 @@ module _ (w b : List ℕ) (i : ℕ) (body : List ℕ) (clock : ℕ) {x : TableSe
     frame = untouched_all _ _ _;
   }
 
-  module _ {s : LabelSeen} (seen : x ≡ Seen.WellFormed s) where
+  module _ {s : LabelSeen} (seen : x ≡ Ok s) where
     legal : true ≡ well_formed w (length b)
     legal = is_legal (well_formed w (length b)) _ tested seen
 

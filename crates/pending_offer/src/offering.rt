@@ -18,7 +18,7 @@ use packed_removal::remove_for_body;
 use pending_flows::{HeaderFigures, figures_at};
 use planned_removal::remove_planned;
 use table::{LABELS, limits_at};
-use table_watch::{Sought, TableSeen};
+use table_watch::Sought;
 
 // Why a body is not accepted. Number 21 is none of them: no offer can reach it.
 #[derive(Clone, Copy)]
@@ -169,7 +169,7 @@ pub fn cache(words: &mut [u64], bytes: &mut [u8], id: u16, body: &[u8], clock: u
         id: id as u64,
         clock,
     };
-    let TableSeen::WellFormed(seen) = table_check::examine(words, bytes.len(), sought) else {
+    let Ok(seen) = table_check::examine(words, bytes.len(), sought) else {
         return OfferAnswer::Refused(OfferRefusal::Damaged);
     };
     offer(words, bytes, id as u64, body, clock, seen.live)

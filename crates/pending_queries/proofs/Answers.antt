@@ -1,4 +1,6 @@
 -- The answers of the queries: what is read off a well-formed table is what the cache says. Assumes nothing.
+use Rattle.std.proofs.Common.{Result, Ok, Err}
+use Rattle.table.specs.declared.Damaged.{Damaged}
 use mathlib.Core.Path.{◌≡◌, refl, ap, sym, ◌∙◌}
 use mathlib.Core.Bool.{Bool, true, false, not}
 use mathlib.Core.List.{List}
@@ -10,8 +12,6 @@ use Rattle.config.specs.declared.PendingFlowsConfig.{PendingFlowsConfig}
 use Rattle.config.specs.Limits.{header_words}
 use Rattle.table_watch.specs.declared.Sought.{Sought}
 use Rattle.table_watch.specs.declared.LabelSeen.{LabelSeen}
-use Rattle.table_watch.specs.declared.TableSeen.{TableSeen}
-use Rattle.table_watch.specs.declared.TableSeen.TheVariants as Seen
 use Rattle.table.specs.Layout.{limits_of}
 use Rattle.table.specs.Table.{table_of, tally}
 use Rattle.table.specs.WellFormed.{well_formed}
@@ -41,15 +41,15 @@ pub asks : {question : Cache → Answer} {a : Areas} {r : Answer} → r ≡ aske
 asks e = record { answer = e; unchanged = refl }
 
 -- The areas were examined: x is what was answered.
-module _ (w b : List ℕ) (sought : Sought) {x : TableSeen} (tested : x ≡ examined w (length b) sought) where
-  pub seen_damaged : (question : Cache → Answer) → x ≡ Seen.Damaged →
+module _ (w b : List ℕ) (sought : Sought) {x : Result LabelSeen Damaged} (tested : x ≡ examined w (length b) sought) where
+  pub seen_damaged : (question : Cache → Answer) → x ≡ (Err Damaged) →
       number 28 ≡ asked question (view (areas_of w b))
   seen_damaged question e = damaged question w b (is_damaged (well_formed w (length b)) _ tested e) refl
 
-  pub seen_legal : {s : LabelSeen} → x ≡ Seen.WellFormed s → well_formed w (length b) ≡ true
+  pub seen_legal : {s : LabelSeen} → x ≡ Ok s → well_formed w (length b) ≡ true
   seen_legal e = sym (is_legal (well_formed w (length b)) _ tested e)
 
-  pub header_seen : {s : LabelSeen} → x ≡ Seen.WellFormed s → header_words ≤ length w
+  pub header_seen : {s : LabelSeen} → x ≡ Ok s → header_words ≤ length w
   header_seen e = header_within w (length b) (seen_legal e)
 
 -- the test of `would_accept`, by the limits and the unexpired bodies
@@ -69,8 +69,8 @@ module _ (l : PendingFlowsConfig) (len live : ℕ) where
 
 -- Both answers of `would_accept` on a well-formed cache, by what was seen of the id's bodies: x is the table that was
 -- tested, and l the limits that were read.
-module _ (w b : List ℕ) (id len clock : ℕ) {x : TableSeen} {s : LabelSeen} {l : PendingFlowsConfig} {v : Bool}
-    (tested : x ≡ examined w (length b) (Sought.Live id clock)) (seen : x ≡ Seen.WellFormed s)
+module _ (w b : List ℕ) (id len clock : ℕ) {x : Result LabelSeen Damaged} {s : LabelSeen} {l : PendingFlowsConfig} {v : Bool}
+    (tested : x ≡ examined w (length b) (Sought.Live id clock)) (seen : x ≡ Ok s)
     (limits : l ≡ limits_of w)
     (is : v ≡ accepts_with l len s.live) where
   ok : well_formed w (length b) ≡ true

@@ -12,7 +12,7 @@ ghost use Rattle.pending_queries.specs.Queries.{Asks, accepts_with, accept_answe
 use config::PendingFlowsConfig;
 use pending_flows::handed_count;
 use table::{CACHED, DROPPED, ENTRY_COUNT, HELD_COUNT, TOTAL, limits_at};
-use table_watch::{Sought, TableSeen};
+use table_watch::Sought;
 
 // What `would_accept` answers.
 #[derive(Clone, Copy)]
@@ -45,7 +45,7 @@ pub fn would_accept(words: &[u64], bytes: &[u8], id: u16, len: usize, clock: u64
         id: id as u64,
         clock,
     };
-    let TableSeen::WellFormed(seen) = table_check::examine(words, bytes.len(), live) else {
+    let Ok(seen) = table_check::examine(words, bytes.len(), live) else {
         return AcceptAnswer::Damaged;
     };
     if accepts(limits_at(words), len, seen.live) {

@@ -1,4 +1,6 @@
 -- The resize behind its tests: damaged areas, refused limits, or a cache that is resized. Assumes nothing.
+use Rattle.std.proofs.Common.{Result, Ok, Err}
+use Rattle.std.specs.Prelude.{⊤}
 use mathlib.Core.Path.{◌≡◌, refl, sym, ap, ◌∙◌}
 use mathlib.Core.Bool.{Bool, true, false, not}
 use mathlib.Core.List.{List}
@@ -8,8 +10,6 @@ use native.Mathlib.Omega.{arith}
 use lib.ListN.{length}
 use borrow.Author.Tests.{eq-eqb, ne_eqb, not-true, not-false}
 use Rattle.config.specs.declared.PendingFlowsConfig.{PendingFlowsConfig}
-use Rattle.config.specs.declared.ConfigAnswer.{ConfigAnswer}
-use Rattle.config.specs.declared.ConfigAnswer.TheVariants.{Accepted, Refused}
 use Rattle.config.specs.declared.ConfigRefusal.{ConfigRefusal}
 use Rattle.config.specs.declared.ConfigRefusal.TheVariants.{NoTemplates, NoEntries, EntrySize, TotalBytes, Areas}
 use Rattle.config.specs.Limits.{refusal_number, answer_number, config_number}
@@ -48,12 +48,12 @@ module _ (l : PendingFlowsConfig) (w b : List ℕ) {v : Bool} (tested : v ≡ we
     frame = untouched_all _ _ _;
   }
 
-  module _ (h : not v ≡ false) (a : ConfigAnswer) (answered : answer_number a ≡ config_number l (length b) (length w))
+  module _ (h : not v ≡ false) (a : Result ⊤ ConfigRefusal) (answered : answer_number a ≡ config_number l (length b) (length w))
     where
       cached : view (areas_of w b) ≡ some (cache_of (table_of w) b)
       cached = view_some w b tested (not-false v h)
 
-      pub resize_refused : {n : ConfigRefusal} → a ≡ Refused n →
+      pub resize_refused : {n : ConfigRefusal} → a ≡ Err n →
           Resizes l (areas_of w b) (Resize.Refused n) (areas_of w b)
       unfolding resized
       resize_refused {n} is =
@@ -69,7 +69,7 @@ module _ (l : PendingFlowsConfig) (w b : List ℕ) {v : Bool} (tested : v ≡ we
             frame = untouched_all _ _ _;
           }
 
-      module _ (is : a ≡ Accepted) where
+      module _ (is : a ≡ (Ok tt)) where
         accepted : config_number l (length b) (length w) ≡ 0
         accepted = sym answered ∙ ap answer_number is
 

@@ -8,7 +8,7 @@ ghost use Rattle.pending_flows.specs.View.{areas_of, cache_of};
 ghost use Rattle.pending_resize.specs.Promises.{ResizesTo, Resizes};
 
 use super::shrinking::shrink;
-use config::{ConfigAnswer, ConfigRefusal, PendingFlowsConfig};
+use config::{ConfigRefusal, PendingFlowsConfig};
 use pending_calls::raised;
 use pending_flows::{HeaderFigures, figures_at, handed_count, write_header};
 use table::{limits_at, records_at};
@@ -60,7 +60,7 @@ pub fn resize(words: &mut [u64], bytes: &mut [u8], config: PendingFlowsConfig) -
         return ResizeAnswer::Damaged;
     }
     match config::validate_config(config, bytes.len(), words.len()) {
-        ConfigAnswer::Refused(refusal) => ResizeAnswer::Refused(refusal),
-        ConfigAnswer::Accepted => ResizeAnswer::Dropped(resize_cache(words, bytes, config)),
+        Err(refusal) => ResizeAnswer::Refused(refusal),
+        Ok(()) => ResizeAnswer::Dropped(resize_cache(words, bytes, config)),
     }
 }

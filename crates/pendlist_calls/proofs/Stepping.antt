@@ -1,4 +1,6 @@
 -- What a line comes to, from what its calls promise. Assumes nothing.
+use Rattle.std.proofs.Common.{Result, Ok, Err}
+use Rattle.std.specs.Prelude.{⊤}
 use mathlib.Core.Path.{◌≡◌, refl, sym, ap, ◌∙◌}
 use mathlib.Core.Bool.{Bool}
 use mathlib.Core.List.{List}
@@ -6,8 +8,6 @@ use mathlib.Core.Option.{Option, none, some}
 use Prim.Native.Nat.{ℕ}
 use native.Mathlib.Omega.{arith}
 use Rattle.config.specs.declared.PendingFlowsConfig.{PendingFlowsConfig}
-use Rattle.config.specs.declared.ConfigAnswer.{ConfigAnswer}
-use Rattle.config.specs.declared.ConfigAnswer.TheVariants as Config
 use Rattle.config.specs.declared.ConfigRefusal.{ConfigRefusal}
 use Rattle.pendlist_commands.specs.declared.Line.{Line}
 use Rattle.pendlist_commands.specs.declared.Line.TheVariants as Says
@@ -60,12 +60,12 @@ module _ (letter n : ℕ) (v : Option Cache) {r : FiguresAnswer}
           let y : ◌≡◌ {A = ℕ} 0 1 = cc in absurd (omega arith)
 
 -- `c`.
-module _ {limits : PendingFlowsConfig} {a a' : Areas} {r : ConfigAnswer} (done : Opens limits a r a') where
-  pub open_taken : r ≡ Config.Accepted → Steps (Says.Open limits) a Opened a'
+module _ {limits : PendingFlowsConfig} {a a' : Areas} {r : Result ⊤ ConfigRefusal} (done : Opens limits a r a') where
+  pub open_taken : r ≡ (Ok tt) → Steps (Says.Open limits) a Opened a'
   unfolding step_of
   open_taken e = record { outcome = rw (sym done.answer, e); holds = done.holds }
 
-  pub open_refused : {n : ConfigRefusal} → r ≡ Config.Refused n → Steps (Says.Open limits) a Bad a'
+  pub open_refused : {n : ConfigRefusal} → r ≡ Err n → Steps (Says.Open limits) a Bad a'
   unfolding step_of
   open_refused e = record { outcome = rw (sym done.answer, e); holds = done.holds }
 

@@ -11,7 +11,7 @@ ghost use Rattle.pending_offer.specs.Promises.{body_of, offer_answer};
 ghost use Rattle.pending_drain.specs.Promises.{drain_answer};
 ghost use Rattle.pendlist_calls.specs.Steps.{figure_of, row_after, Steps, RunsLine};
 
-use config::{ConfigAnswer, PendingFlowsConfig};
+use config::{PendingFlowsConfig};
 use pending_drain::{DrainAnswer, drain};
 use pending_flows::open;
 use pending_offer::{OfferAnswer, OfferRefusal, cache};
@@ -43,7 +43,7 @@ fn run_open(words: &mut [u64], bytes: &[u8], config: PendingFlowsConfig) -> Outc
     ensures { Steps (Says.Open config) (areas_of words.old bytes.now) result
         (areas_of words.new bytes.now) }
 {
-    let ConfigAnswer::Accepted = open(config, words, bytes) else {
+    let Ok(()) = open(config, words, bytes) else {
         return Outcome::Bad;
     };
     Outcome::Opened

@@ -1,12 +1,11 @@
 -- What a line says, word by word: a number or a TTL is there or not, an id or a length is small enough or not.
 -- Assumes nothing.
+use Rattle.std.proofs.Common.{Option, Some, None}
 use mathlib.Core.Path.{◌≡◌, sym, ◌∙◌}
 use mathlib.Core.Bool.{Bool, true, false}
 use mathlib.Core.List.{List}
 use Prim.Native.Nat.{ℕ, ◌≤◌, ◌<◌}
 use borrow.Author.Tests.{le-leb, lt-leb}
-use Rattle.config.specs.declared.Ttl.{Ttl}
-use Rattle.config.specs.declared.Ttl.TheVariants.{None, After}
 use Rattle.pendlist_words.specs.declared.NumberFound.{NumberFound}
 use Rattle.pendlist_words.specs.declared.NumberFound.TheVariants.{At, Nothing}
 use Rattle.pendlist_words.specs.Words.{is_byte, number_of}
@@ -25,12 +24,12 @@ module _ {x y : NumberFound} (says : ℕ → Line) (read : x ≡ y) where
   unfolding with_number
   by_number e f = f ∙ rw (sym read ∙ e)
 
-module _ {x y : TtlFound} (says : Ttl → Line) (read : x ≡ y) where
+module _ {x y : TtlFound} (says : Option ℕ → Line) (read : x ≡ y) where
   pub no_ttl : x ≡ Neither → Bad ≡ with_ttl y says
   unfolding with_ttl
   no_ttl e = rw (sym read ∙ e)
 
-  pub by_ttl : {t : Ttl} {r : Line} → x ≡ Is t → r ≡ says t → r ≡ with_ttl y says
+  pub by_ttl : {t : Option ℕ} {r : Line} → x ≡ Is t → r ≡ says t → r ≡ with_ttl y says
   unfolding with_ttl
   by_ttl e f = f ∙ rw (sym read ∙ e)
 
@@ -50,7 +49,7 @@ module _ (w : List ℕ) {dash : Bool} (tested : dash ≡ is_byte 45 w) where
   dash_is_none e = rw (sym tested ∙ e)
 
   module _ {x : NumberFound} (no-dash : dash ≡ false) (read : x ≡ number_of w) where
-    pub number_is_after : {n : ℕ} → x ≡ At n → Is (After n) ≡ ttl_of w
+    pub number_is_after : {n : ℕ} → x ≡ At n → Is (Some n) ≡ ttl_of w
     unfolding ttl_of
     number_is_after e = rw (sym tested ∙ no-dash, sym read ∙ e)
 

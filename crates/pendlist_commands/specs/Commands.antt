@@ -1,9 +1,8 @@
 -- What the words behind the first word of an input line of `pendlist` say (document 01, "Cases"). Decided here: ids
 -- and lengths are at most 65,535; the limits of `c` are any numbers, since opening tests them. What words and numbers
 -- are is in pendlist_words (specs/Words.antt); which words a line has, in pendlist_lines (specs/Grammar.antt).
+use Rattle.std.specs.Prelude.{Option, Some, None}
 use Rattle.std.specs.Prelude.{cond, List, ℕ, leb}
-use Rattle.config.specs.declared.Ttl.{Ttl}
-use Rattle.config.specs.declared.Ttl.TheVariants.{None, After}
 use Rattle.pendlist_words.specs.declared.NumberFound.{NumberFound}
 use Rattle.pendlist_words.specs.declared.NumberFound.TheVariants.{At, Nothing}
 use Rattle.pendlist_words.specs.Words.{word_at, is_byte, number_of}
@@ -14,7 +13,7 @@ use Rattle.pendlist_commands.specs.declared.Line.TheVariants.{Open, Offer, Drain
 
 -- a number as a TTL: a body is expired at this age
 abbrev pub ttl_after : NumberFound → TtlFound
-ttl_after (At n) = Is (After n)
+ttl_after (At n) = Is (Some n)
 ttl_after Nothing = Neither
 
 -- the last word of `c`: `-` for no TTL, or a number
@@ -26,7 +25,7 @@ unfoldable pub with_number : NumberFound → (ℕ → Line) → Line
 with_number (At n) says = says n
 with_number Nothing says = Bad
 
-unfoldable pub with_ttl : TtlFound → (Ttl → Line) → Line
+unfoldable pub with_ttl : TtlFound → (Option ℕ → Line) → Line
 with_ttl (Is ttl) says = says ttl
 with_ttl Neither says = Bad
 
@@ -34,7 +33,7 @@ with_ttl Neither says = Bad
 abbrev pub number_at : ℕ → List (List ℕ) → (ℕ → Line) → Line
 number_at k ws says = with_number (number_of (word_at k ws)) says
 
-abbrev pub ttl_at : ℕ → List (List ℕ) → (Ttl → Line) → Line
+abbrev pub ttl_at : ℕ → List (List ℕ) → (Option ℕ → Line) → Line
 ttl_at k ws says = with_ttl (ttl_of (word_at k ws)) says
 
 -- an id and a length are at most 65,535

@@ -5,7 +5,7 @@ ghost use Rattle.std.specs.Prelude.{◌≡◌};
 ghost use Rattle.pendlist_words.specs.Words.{words_of, word_at};
 ghost use Rattle.pendlist_commands.specs.Commands.{ttl_of, open_of, offer_of, drain_of};
 
-use config::{PendingFlowsConfig, Ttl};
+use config::{PendingFlowsConfig};
 use pendlist_words::{NumberFound, number_at, word_is};
 
 // `o id length clock`: a body of that length is offered to the template.
@@ -37,7 +37,7 @@ pub enum Line {
 // What a word says as a TTL.
 #[derive(Clone, Copy)]
 enum TtlFound {
-    Is(Ttl),
+    Is(Option<u64>),
     // neither `-` nor a number
     Neither,
 }
@@ -50,12 +50,12 @@ fn ttl_at(line: &[u8], k: usize) -> TtlFound
     ensures { result ≡ ttl_of (word_at k (words_of line.now)) }
 {
     if word_is(line, k, b'-') {
-        return TtlFound::Is(Ttl::None);
+        return TtlFound::Is(None);
     }
     let NumberFound::At(limit) = number_at(line, k) else {
         return TtlFound::Neither;
     };
-    TtlFound::Is(Ttl::After(limit))
+    TtlFound::Is(Some(limit))
 }
 
 // The limits in the five words behind `c`.

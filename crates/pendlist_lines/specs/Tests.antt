@@ -1,8 +1,7 @@
 -- What lines say, document 01's five first, and what is malformed. Proved by computation.
+use Rattle.std.specs.Prelude.{Option, Some, None}
 use Rattle.std.specs.Prelude.{◌≡◌, refl, List, [], ◌∷◌, ◌++◌, map, ℕ, true, false, replicate}
 use Prim.Native.String.{String}
-use Rattle.config.specs.declared.Ttl.{Ttl}
-use Rattle.config.specs.declared.Ttl.TheVariants.{None, After}
 use Rattle.pendlist_commands.specs.declared.Line.{Line}
 use Rattle.pendlist_commands.specs.declared.Line.TheVariants.{Open, Offer, Drain, Bad}
 use Rattle.pendlist_lines.specs.Grammar.{words_of, is_byte, all_digits, value_from, number_from, number_of, ttl_of}
@@ -13,7 +12,7 @@ pub use Rattle.pendlist_words.specs.Texts.{bytes_of}
 abbrev says : String → Line
 says s = line_of (bytes_of s)
 
-abbrev opens : ℕ → ℕ → ℕ → ℕ → Ttl → Line
+abbrev opens : ℕ → ℕ → ℕ → ℕ → Option ℕ → Line
 opens templates entries size total t = Open (record {
   max_pending_flows = templates;
   max_entries_per_template = entries;
@@ -31,7 +30,7 @@ drains i t = Drain (record { id = i; clock = t })
 -- document 01's lines
 pub document_lines :
     map says ("c 2 2 10 16 100" ∷ "o 300 6 0" ∷ "o 301 8 1" ∷ "o 300 4 2" ∷ "d 301 3" ∷ [])
-    ≡ opens 2 2 10 16 (After 100) ∷ offers 300 6 0 ∷ offers 301 8 1 ∷ offers 300 4 2 ∷ drains 301 3 ∷ []
+    ≡ opens 2 2 10 16 (Some 100) ∷ offers 300 6 0 ∷ offers 301 8 1 ∷ offers 300 4 2 ∷ drains 301 3 ∷ []
 unfolding words_of is_byte all_digits value_from number_from number_of ttl_of with_number with_ttl within16 open_of offer_of
     drain_of is_command from_words line_of
 document_lines = refl
@@ -41,8 +40,8 @@ pub lines_taken :
     map says
     ("c 2 2 10 16 -" ∷ "c 02 002 010 16 0" ∷ "d 0000000000000000000000301 03" ∷ "d 0 18446744073709551615"
     ∷ "o 65535 65535 0" ∷ "d 65535 0" ∷ "c 0 0 0 18446744073709551615 18446744073709551615" ∷ [])
-    ≡ opens 2 2 10 16 None ∷ opens 2 2 10 16 (After 0) ∷ drains 301 3 ∷ drains 0 18446744073709551615
-    ∷ offers 65535 65535 0 ∷ drains 65535 0 ∷ opens 0 0 0 18446744073709551615 (After 18446744073709551615) ∷ []
+    ≡ opens 2 2 10 16 None ∷ opens 2 2 10 16 (Some 0) ∷ drains 301 3 ∷ drains 0 18446744073709551615
+    ∷ offers 65535 65535 0 ∷ drains 65535 0 ∷ opens 0 0 0 18446744073709551615 (Some 18446744073709551615) ∷ []
 unfolding words_of is_byte all_digits value_from number_from number_of ttl_of with_number with_ttl within16 open_of offer_of
     drain_of is_command from_words line_of
 lines_taken = refl

@@ -1,5 +1,6 @@
 -- Which template goes alone: where nothing is handed out, the one that goes for room, or the least recent one where one
 -- goes for its bytes and none for room. Assumes nothing.
+use Rattle.std.proofs.Common.{Option}
 use mathlib.Core.Path.{◌≡◌, refl, sym, ap, subst, ◌∙◌}
 use mathlib.Core.Bool.{Bool, true, false}
 use mathlib.Core.List.{List, [], ◌∷◌}
@@ -9,7 +10,6 @@ use lib.Dec.{eqb}
 use lib.ListN.{length, set, take, replicate, length-set, length-replicate}
 use lib.Seq.{set_out}
 use borrow.Author.Tests.{eqb-true}
-use Rattle.config.specs.declared.Ttl.{Ttl}
 use Rattle.config.specs.declared.PendingFlowsConfig.{PendingFlowsConfig}
 use Rattle.config.specs.Limits.{record_words}
 use Rattle.table.specs.declared.TemplateRecord.{TemplateRecord}
@@ -131,7 +131,7 @@ expired_alone w clock apart plan {l = l} {w'} {r} figures limits t certainly hol
     (subst (λ (skip : List ℕ). Removes (unexpired l.ttl clock apart) p k (entry_count w) apart skip w w' r)
     (sym skips) done)
   where
-    test_of : Ttl → Bool → ℕ → StayTest
+    test_of : Option ℕ → Bool → ℕ → StayTest
     test_of ttl all label = record {
       ttl = ttl;
       clock = clock;

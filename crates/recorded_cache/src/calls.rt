@@ -1,6 +1,6 @@
 // The calls of a recorded list, by their numbers there. Each answers with document 01's number and a value.
 use super::bodies::{LONGEST, body_of};
-use config::{ConfigAnswer, PendingFlowsConfig, Ttl, config_number};
+use config::{PendingFlowsConfig, config_number};
 use pending_calls::{ClearAnswer, clear};
 use pending_drain::{DrainAnswer, drain};
 use pending_flows::open;
@@ -35,9 +35,9 @@ fn id_of(n: u64) -> u16 {
 // The limits of a row, in document 01's order.
 fn limits_of(args: [u64; 8]) -> PendingFlowsConfig {
     let ttl = if args[4] == 0 {
-        Ttl::None
+        None
     } else {
-        Ttl::After(args[5])
+        Some(args[5])
     };
     PendingFlowsConfig {
         max_pending_flows: args[0] as usize,
@@ -51,8 +51,8 @@ fn limits_of(args: [u64; 8]) -> PendingFlowsConfig {
 fn run_open(words: &mut [u64], bytes: &[u8], args: [u64; 8]) -> Answered {
     let answer = open(limits_of(args), words, bytes);
     match answer {
-        ConfigAnswer::Accepted => told(0, 0),
-        ConfigAnswer::Refused(refusal) => told(config_number(refusal) as u64, 0),
+        Ok(()) => told(0, 0),
+        Err(refusal) => told(config_number(refusal) as u64, 0),
     }
 }
 

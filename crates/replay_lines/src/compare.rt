@@ -1,5 +1,5 @@
 // What a line says or comes to, set against the text of a row.
-use config::{PendingFlowsConfig, Ttl};
+use config::{PendingFlowsConfig};
 use pendlist_commands::{DrainLine, Line, OfferLine};
 use pendlist_rows::{Outcome, Row};
 use recorded::next_number;
@@ -28,10 +28,10 @@ fn has(text: &[u8], byte: u8) -> bool {
     text.contains(&byte)
 }
 
-fn same_ttl(ttl: Ttl, expected: &[u8], value: u64) -> bool {
+fn same_ttl(ttl: Option<u64>, expected: &[u8], value: u64) -> bool {
     match ttl {
-        Ttl::None => has(expected, b'-'),
-        Ttl::After(limit) => {
+        None => has(expected, b'-'),
+        Some(limit) => {
             if has(expected, b'-') {
                 return false;
             }

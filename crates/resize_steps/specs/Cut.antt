@@ -1,6 +1,6 @@
 -- Cutting to the new number of templates, entry size and cap.
+use Rattle.std.specs.Prelude.{None}
 use Rattle.std.specs.Prelude.{false, List, ℕ, ◌+◌, ◌*◌, ◌-◌, length, take}
-use Rattle.config.specs.declared.Ttl.TheVariants.{None}
 use Rattle.config.specs.declared.PendingFlowsConfig.{PendingFlowsConfig}
 use Rattle.config.specs.Limits.{record_words}
 use Rattle.table.specs.declared.Entry.{Entry}

@@ -5,7 +5,7 @@ ghost use Rattle.table.specs.Layout.{entries_at};
 ghost use Rattle.table.specs.Table.{entries_from, records_from};
 ghost use Rattle.resize_steps.specs.Cut.{small_enough, cut_skips, Cuts};
 
-use config::{PendingFlowsConfig, RECORD_WORDS, Ttl};
+use config::{PendingFlowsConfig, RECORD_WORDS};
 use pending_calls::{Removed, remove};
 use table::LABELS;
 use table_entries::{StayTest, sums_by_label};
@@ -16,7 +16,7 @@ fn small_enough(config: PendingFlowsConfig) -> StayTest
     ensures { result ≡ small_enough config }
 {
     StayTest {
-        ttl: Ttl::None,
+        ttl: None,
         clock: 0,
         all: false,
         label: LABELS as u64,

@@ -2,7 +2,7 @@
 // what it gives), and the figures after it: templates, bodies, bytes, cached, dropped, handed out.
 #![tactic(auto)]
 
-use config::{ConfigAnswer, PendingFlowsConfig, Ttl, config_number};
+use config::{PendingFlowsConfig, config_number};
 use pending_calls::{ClearAnswer, clear};
 use pending_drain::{DrainAnswer, drain};
 use pending_flows::open;
@@ -66,8 +66,8 @@ fn begin(rt: &impl Print, words: &mut [u64], bytes: &[u8], config: PendingFlowsC
     print_value(rt, config.max_total_bytes as u64);
     let _ = rt.print(":");
     match open(config, words, bytes) {
-        ConfigAnswer::Accepted => print_value(rt, 0),
-        ConfigAnswer::Refused(refusal) => print_value(rt, config_number(refusal) as u64),
+        Ok(()) => print_value(rt, 0),
+        Err(refusal) => print_value(rt, config_number(refusal) as u64),
     }
     end_line(rt, words, bytes);
 }
@@ -190,7 +190,7 @@ fn limits(
     bodies: usize,
     entry: usize,
     total: usize,
-    ttl: Ttl,
+    ttl: Option<u64>,
 ) -> PendingFlowsConfig {
     PendingFlowsConfig {
         max_pending_flows: templates,
@@ -210,7 +210,7 @@ fn eviction_and_age(rt: &impl Print) {
         rt,
         &mut words,
         &bytes,
-        limits(2, 2, 10, 16, Ttl::After(100)),
+        limits(2, 2, 10, 16, Some(100)),
     );
     offer(rt, &mut words, &mut bytes, 300, &body[..6], 0);
     offer(rt, &mut words, &mut bytes, 301, &body[..8], 1);
@@ -234,7 +234,7 @@ fn no_is_no_bar(rt: &impl Print) {
     let mut words = [0u64; 132];
     let mut bytes = [0u8; 16];
     let body = [0u8, 1, 2, 3, 4, 5, 6, 7, 8, 9, 10, 11, 12, 13, 14, 15];
-    begin(rt, &mut words, &bytes, limits(1, 1, 10, 10, Ttl::None));
+    begin(rt, &mut words, &bytes, limits(1, 1, 10, 10, None));
     offer(rt, &mut words, &mut bytes, 300, &body[..6], 0);
     ask(rt, &words, &bytes, 300, 5, 1);
     offer(rt, &mut words, &mut bytes, 300, &body[..5], 1);
@@ -249,7 +249,7 @@ fn listed(rt: &impl Print) {
         rt,
         &mut words,
         &bytes,
-        limits(2, 2, 10, 16, Ttl::After(100)),
+        limits(2, 2, 10, 16, Some(100)),
     );
     offer(rt, &mut words, &mut bytes, 300, &body[..6], 0);
     offer(rt, &mut words, &mut bytes, 301, &body[..8], 1);
@@ -267,7 +267,7 @@ fn pruning_first(rt: &impl Print) {
         rt,
         &mut words,
         &bytes,
-        limits(2, 2, 10, 10, Ttl::After(100)),
+        limits(2, 2, 10, 10, Some(100)),
     );
     offer(rt, &mut words, &mut bytes, 301, &body[..4], 50);
     offer(rt, &mut words, &mut bytes, 300, &body[..6], 1);
@@ -279,7 +279,7 @@ fn promotion_on_20(rt: &impl Print) {
     let mut words = [0u64; 132];
     let mut bytes = [0u8; 16];
     let body = [0u8, 1, 2, 3, 4, 5, 6, 7, 8, 9, 10, 11, 12, 13, 14, 15];
-    begin(rt, &mut words, &bytes, limits(2, 1, 10, 16, Ttl::None));
+    begin(rt, &mut words, &bytes, limits(2, 1, 10, 16, None));
     offer(rt, &mut words, &mut bytes, 300, &body[..1], 0);
     offer(rt, &mut words, &mut bytes, 301, &body[..1], 1);
     offer(rt, &mut words, &mut bytes, 300, &body[..1], 2);
@@ -296,7 +296,7 @@ fn age_of_the_ttl(rt: &impl Print) {
         rt,
         &mut words,
         &bytes,
-        limits(1, 1, 10, 10, Ttl::After(100)),
+        limits(1, 1, 10, 10, Some(100)),
     );
     offer(rt, &mut words, &mut bytes, 300, &body[..1], 0);
     ask(rt, &words, &bytes, 300, 2, 99);
@@ -309,7 +309,7 @@ fn chance_ended(rt: &impl Print) {
     let mut words = [0u64; 132];
     let mut bytes = [0u8; 16];
     let body = [0u8, 1, 2, 3, 4, 5, 6, 7, 8, 9, 10, 11, 12, 13, 14, 15];
-    begin(rt, &mut words, &bytes, limits(1, 1, 2, 2, Ttl::None));
+    begin(rt, &mut words, &bytes, limits(1, 1, 2, 2, None));
     offer(rt, &mut words, &mut bytes, 300, &body[..2], 0);
     take(rt, &mut words, &bytes, 300, 0);
     offer(rt, &mut words, &mut bytes, 300, &body[..3], 0);
@@ -323,7 +323,7 @@ fn ends_and_limits(rt: &impl Print) {
     let mut words = [0u64; 132];
     let mut bytes = [0u8; 16];
     let body = [0u8, 1, 2, 3, 4, 5, 6, 7, 8, 9, 10, 11, 12, 13, 14, 15];
-    begin(rt, &mut words, &bytes, limits(3, 3, 16, 16, Ttl::None));
+    begin(rt, &mut words, &bytes, limits(3, 3, 16, 16, None));
     offer(rt, &mut words, &mut bytes, 300, &body[..0], 0);
     offer(rt, &mut words, &mut bytes, 301, &body[..9], 0);
     offer(rt, &mut words, &mut bytes, 302, &body[..7], 0);
@@ -335,18 +335,18 @@ fn ends_and_limits(rt: &impl Print) {
     take(rt, &mut words, &bytes, 303, 0);
     read(rt, &words, &bytes, 0);
     put_back(rt, &mut words, &bytes, 303, 1);
-    change_limits(rt, &mut words, &mut bytes, limits(0, 0, 0, 0, Ttl::None));
-    change_limits(rt, &mut words, &mut bytes, limits(3, 0, 0, 0, Ttl::None));
-    change_limits(rt, &mut words, &mut bytes, limits(3, 3, 0, 1, Ttl::None));
-    change_limits(rt, &mut words, &mut bytes, limits(3, 3, 2, 1, Ttl::None));
-    change_limits(rt, &mut words, &mut bytes, limits(1025, 1, 1, 1, Ttl::None));
+    change_limits(rt, &mut words, &mut bytes, limits(0, 0, 0, 0, None));
+    change_limits(rt, &mut words, &mut bytes, limits(3, 0, 0, 0, None));
+    change_limits(rt, &mut words, &mut bytes, limits(3, 3, 0, 1, None));
+    change_limits(rt, &mut words, &mut bytes, limits(3, 3, 2, 1, None));
+    change_limits(rt, &mut words, &mut bytes, limits(1025, 1, 1, 1, None));
     change_limits(
         rt,
         &mut words,
         &mut bytes,
-        limits(2, 1, 9, 9, Ttl::After(0)),
+        limits(2, 1, 9, 9, Some(0)),
     );
-    change_limits(rt, &mut words, &mut bytes, limits(2, 2, 9, 12, Ttl::None));
+    change_limits(rt, &mut words, &mut bytes, limits(2, 2, 9, 12, None));
     offer(rt, &mut words, &mut bytes, 304, &body[..9], 0);
     take(rt, &mut words, &bytes, 304, 0);
     empty(rt, &mut words, &bytes);

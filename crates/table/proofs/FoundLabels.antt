@@ -1,21 +1,20 @@
 -- The label of an id among records whose keys and labels differ: it belongs to the record with that key alone.
 -- Assumes nothing.
+use Rattle.std.proofs.Common.{Option, Some, None}
 use Rattle.std.proofs.Common.{◌≡◌, ℕ, ◌<◌, Bool, true, false, cond, eqb, ◌≢◌, List, [], ◌∷◌, sym, refl, ap, ◌∙◌, arith, eq-eqb, ne_eqb, eqb-true}
 use Rattle.config.proofs.Lists.{All, all_map, all_both}
 use Rattle.table.specs.declared.TemplateRecord.{TemplateRecord}
-use Rattle.table.specs.declared.LabelFound.{LabelFound}
-use Rattle.table.specs.declared.LabelFound.TheVariants as Label
 use Rattle.table.specs.Reads.{label_of, label_or_none}
 use Rattle.table.proofs.Facts.{Differ}
 
 abbrev pub label_for : ℕ → List TemplateRecord → ℕ
 label_for i rs = label_or_none (label_of i rs)
 
-module _ {x y : LabelFound} (found : x ≡ y) where
-  pub no_label : x ≡ Label.Nothing → 1024 ≡ label_or_none y
+module _ {x y : Option ℕ} (found : x ≡ y) where
+  pub no_label : x ≡ None → 1024 ≡ label_or_none y
   no_label e = ap label_or_none (sym e ∙ found)
 
-  pub the_label : {k : ℕ} → x ≡ Label.At k → k ≡ label_or_none y
+  pub the_label : {k : ℕ} → x ≡ Some k → k ≡ label_or_none y
   the_label e = ap label_or_none (sym e ∙ found)
 
 module _ (i : ℕ) where
@@ -27,7 +26,7 @@ module _ (i : ℕ) where
   found_has P (r ∷ rs) a none = by_key (eqb i r.key) refl (found_has P rs a.1 none)
     where
       by_key : (t : Bool) → eqb i r.key ≡ t → P i (label_for i rs) →
-          P i (label_or_none (cond t (Label.At r.label) (label_of i rs)))
+          P i (label_or_none (cond t (Some r.label) (label_of i rs)))
       by_key true e h = rw (eqb-true i r.key e) a.0
       by_key false e h = h
 
@@ -42,8 +41,8 @@ module _ (i : ℕ) where
       by_key (eqb i r.key) refl (found_alone rs keys.1 labels.1 small.1)
     where
       by_key : (t : Bool) → eqb i r.key ≡ t → All (Alone (label_for i rs)) rs →
-          (eqb (label_or_none (cond t (Label.At r.label) (label_of i rs))) r.label ≡ t) ×
-          All (Alone (label_or_none (cond t (Label.At r.label) (label_of i rs)))) rs
+          (eqb (label_or_none (cond t (Some r.label) (label_of i rs))) r.label ≡ t) ×
+          All (Alone (label_or_none (cond t (Some r.label) (label_of i rs)))) rs
       by_key true e ih = (
         eq-eqb r.label r.label refl,
         all_both (λ u. r.key ≢ u.key) (λ u. r.label ≢ u.label) (Alone r.label)

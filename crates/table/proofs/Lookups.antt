@@ -1,14 +1,11 @@
 -- The passes that look something up in records or entries: what is found is found in what is left. Assumes nothing.
+use Rattle.std.proofs.Common.{Option, Some, None}
 use Rattle.std.proofs.Common.{◌≡◌, ℕ, ◌+◌, ◌-◌, ◌*◌, ◌%◌, ◌^◌, ◌<◌, ◌≤◌, Bool, true, false, cond, not, eqb, List, [], ◌∷◌, length, sym, refl, ap, ◌∙◌, arith, eq-eqb, ne_eqb}
 use native.Mathlib.Nat.{mod-add-mod}
-use Rattle.config.specs.declared.Ttl.{Ttl}
 use Rattle.config.specs.Age.{expired_at}
 use Rattle.config.specs.Limits.{header_words, record_words, entry_words}
 use Rattle.table.specs.declared.Entry.{Entry}
 use Rattle.table.specs.declared.TemplateRecord.{TemplateRecord}
-use Rattle.table.specs.declared.RecordFound.{RecordFound}
-use Rattle.table.specs.declared.RecordFound.TheVariants as Record
-use Rattle.table.specs.declared.LabelFound.TheVariants as Label
 use Rattle.table.specs.declared.LiveFigures.{LiveFigures}
 use Rattle.table.specs.Layout.{entries_at}
 use Rattle.table.specs.Table.{entry_at, record_at, entries_from, records_from}
@@ -28,12 +25,12 @@ pub all_records : (w : List ℕ) (key from records : ℕ) → from + record_word
 all_records w key from records h = record { within = h; same = refl }
 
 module _ {w : List ℕ} {key from records p left : ℕ} (inv : KeySought w key from records p left) where
-  pub record_absent : left ≤ 0 → Record.Nothing ≡ record_of key (records_from w from records)
+  pub record_absent : left ≤ 0 → None ≡ record_of key (records_from w from records)
   unfolding record_of
   record_absent h = sym (inv.same ∙ ap (record_of key) (records_none w p left h))
 
   module _ (r : TemplateRecord) (some : 0 < left) (is : r ≡ record_at w p) where
-    pub record_found : key ≡ r.key → Record.At r ≡ record_of key (records_from w from records)
+    pub record_found : key ≡ r.key → Some r ≡ record_of key (records_from w from records)
     unfolding record_of
     record_found e = sym (inv.same ∙ rw (records_first w p left some r is, eq-eqb key r.key e))
 
@@ -51,7 +48,7 @@ label_in_lem key [] = refl
 label_in_lem key (r ∷ rs) = by_key (eqb key r.key) (label_in_lem key rs)
   where
     by_key : (b : Bool) → label_in (record_of key rs) ≡ label_of key rs →
-        label_in (cond b (Record.At r) (record_of key rs)) ≡ cond b (Label.At r.label) (label_of key rs)
+        label_in (cond b (Some r) (record_of key rs)) ≡ cond b (Some r.label) (label_of key rs)
     by_key true ih = refl
     by_key false ih = ih
 
@@ -61,28 +58,28 @@ count_in_lem key [] = refl
 count_in_lem key (r ∷ rs) = by_key (eqb key r.key) (count_in_lem key rs)
   where
     by_key : (b : Bool) → count_in (record_of key rs) ≡ count_of key rs →
-        count_in (cond b (Record.At r) (record_of key rs)) ≡ cond b r.count (count_of key rs)
+        count_in (cond b (Some r) (record_of key rs)) ≡ cond b r.count (count_of key rs)
     by_key true ih = refl
     by_key false ih = ih
 
-module _ (key : ℕ) (rs : List TemplateRecord) {x : RecordFound} (searched : x ≡ record_of key rs) where
-  pub label_told : {r : TemplateRecord} → x ≡ Record.At r → Label.At r.label ≡ label_of key rs
+module _ (key : ℕ) (rs : List TemplateRecord) {x : Option TemplateRecord} (searched : x ≡ record_of key rs) where
+  pub label_told : {r : TemplateRecord} → x ≡ Some r → Some r.label ≡ label_of key rs
   label_told e = sym (ap label_in e) ∙ ap label_in searched ∙ label_in_lem key rs
 
-  pub no_label_told : x ≡ Record.Nothing → Label.Nothing ≡ label_of key rs
+  pub no_label_told : x ≡ None → None ≡ label_of key rs
   no_label_told e = sym (ap label_in e) ∙ ap label_in searched ∙ label_in_lem key rs
 
   pub count_read : {n : ℕ} → n ≡ count_in x → n ≡ count_of key rs
   count_read e = e ∙ ap count_in searched ∙ count_in_lem key rs
 
-  pub count_told : {r : TemplateRecord} → x ≡ Record.At r → r.count ≡ count_of key rs
+  pub count_told : {r : TemplateRecord} → x ≡ Some r → r.count ≡ count_of key rs
   count_told e = sym (ap count_in e) ∙ ap count_in searched ∙ count_in_lem key rs
 
-  pub no_count_told : x ≡ Record.Nothing → 0 ≡ count_of key rs
+  pub no_count_told : x ≡ None → 0 ≡ count_of key rs
   no_count_told e = sym (ap count_in e) ∙ ap count_in searched ∙ count_in_lem key rs
 
 -- An entry is live by its label, and by not being expired.
-module _ (ttl : Ttl) (clock label : ℕ) (e : Entry) where
+module _ (ttl : Option ℕ) (clock label : ℕ) (e : Entry) where
   pub other_label : (label ≡ e.label → ⊥) → false ≡ is_live ttl clock label e
   other_label h = rw (ne_eqb label e.label h)
 
@@ -91,7 +88,7 @@ module _ (ttl : Ttl) (clock label : ℕ) (e : Entry) where
   live_by_age h f = rw (eq-eqb label e.label h, f)
 
 -- Summing live entries: those passed, and then those among the `left` ones from word p on.
-pub record LiveSummed (w : List ℕ) (ttl : Ttl) (clock label entries bodies bytes left p : ℕ) : Type 0 where
+pub record LiveSummed (w : List ℕ) (ttl : Option ℕ) (clock label entries bodies bytes left p : ℕ) : Type 0 where
   -- they lie within the words
   pub within : p + entry_words * left ≤ length w
   -- no more are counted than passed
@@ -105,7 +102,7 @@ pub record LiveSummed (w : List ℕ) (ttl : Ttl) (clock label entries bodies byt
   pub lens_rest : live_lens ttl clock label (entries_from w entries_at entries) ≡
       passed + live_lens ttl clock label (entries_from w p left)
 
-pub none_summed : (w : List ℕ) (ttl : Ttl) (clock label entries : ℕ) →
+pub none_summed : (w : List ℕ) (ttl : Option ℕ) (clock label entries : ℕ) →
     header_words + entry_words * entries ≤ length w →
     LiveSummed w ttl clock label entries 0 0 entries header_words
 none_summed w ttl clock label entries h = record {
@@ -117,7 +114,7 @@ none_summed w ttl clock label entries h = record {
   lens_rest = omega arith;
 }
 
-module _ {w : List ℕ} {ttl : Ttl} {clock label entries bodies bytes left p : ℕ}
+module _ {w : List ℕ} {ttl : Option ℕ} {clock label entries bodies bytes left p : ℕ}
     (inv : LiveSummed w ttl clock label entries bodies bytes left p) where
   pub all_summed : left ≤ 0 →
       ◌≡◌ {A = LiveFigures} (record { bodies = bodies; bytes = bytes })
@@ -172,6 +169,6 @@ module _ {w : List ℕ} {ttl : Ttl} {clock label entries bodies bytes left p : �
           lens_rest = omega (arith, inv.lens_rest);
         }
 
-pub bodies_told : {f : LiveFigures} (ttl : Ttl) (clock label : ℕ) (es : List Entry) →
+pub bodies_told : {f : LiveFigures} (ttl : Option ℕ) (clock label : ℕ) (es : List Entry) →
     f ≡ live_figures ttl clock label es → f.bodies ≡ live_count ttl clock label es
 bodies_told ttl clock label es e = ap (λ (f : LiveFigures). f.bodies) e

@@ -1,6 +1,6 @@
 -- What the words say: the limits, and entries, records and index words from a place on. Assumes nothing.
+use Rattle.std.proofs.Common.{Option}
 use Rattle.std.proofs.Common.{◌≡◌, ℕ, zero, suc, ◌+◌, ◌-◌, ◌*◌, ◌<◌, ◌≤◌, List, [], ◌∷◌, length, take, drop, sym, refl, ap, ◌∙◌, suc-add, arith, get_or-drop, get_or-take}
-use Rattle.config.specs.declared.Ttl.{Ttl}
 use Rattle.config.specs.declared.PendingFlowsConfig.{PendingFlowsConfig}
 use Rattle.config.specs.Limits.{record_words, entry_words}
 use Rattle.table.specs.declared.Entry.{Entry}
@@ -11,7 +11,7 @@ use Rattle.table.specs.WellFormed.{key_at}
 use Rattle.table.specs.Passes.{first_label}
 
 -- the limits but the time to live are words
-abbrev limits_with : List ℕ → Ttl → PendingFlowsConfig
+abbrev limits_with : List ℕ → Option ℕ → PendingFlowsConfig
 limits_with w t = record {
   max_pending_flows = word w 0;
   max_entries_per_template = word w 1;
@@ -20,7 +20,7 @@ limits_with w t = record {
   ttl = t;
 }
 
-pub limits_read : (w : List ℕ) (t : Ttl) → t ≡ ttl_of (ttl_set w) (word w 5) → limits_with w t ≡ limits_of w
+pub limits_read : (w : List ℕ) (t : Option ℕ) → t ≡ ttl_of (ttl_set w) (word w 5) → limits_with w t ≡ limits_of w
 limits_read w t e = ap (limits_with w) e
 
 -- words before n, and from n on

@@ -1,7 +1,6 @@
 -- Where the words of a table stand (docs/LAYOUT.md).
+use Rattle.std.specs.Prelude.{Option, Some, None}
 use Rattle.std.specs.Prelude.{ℕ, ◌+◌, ◌*◌, cond, List, ◌==◌, slice_index}
-use Rattle.config.specs.declared.Ttl.{Ttl}
-use Rattle.config.specs.declared.Ttl.TheVariants.{None, After}
 use Rattle.config.specs.declared.PendingFlowsConfig.{PendingFlowsConfig}
 use Rattle.config.specs.Limits.{header_words, entry_words, max_bodies}
 
@@ -31,8 +30,8 @@ entry_count w = word w 10
 abbrev pub chance_count : List ℕ → ℕ
 chance_count w = word w 11
 
-abbrev pub ttl_of : ℕ → ℕ → Ttl
-ttl_of set ttl = cond (set == 0) None (After ttl)
+abbrev pub ttl_of : ℕ → ℕ → Option ℕ
+ttl_of set ttl = cond (set == 0) None (Some ttl)
 
 abbrev pub limits_of : List ℕ → PendingFlowsConfig
 limits_of w = record {

@@ -5,7 +5,7 @@ ghost use Rattle.table.specs.Layout.{ttl_of, limits_of, records_at};
 ghost use Rattle.table.specs.Table.{entry_at, record_at};
 
 use super::{Entry, TemplateRecord};
-use config::{ENTRY_WORDS, HEADER_WORDS, PendingFlowsConfig, Ttl};
+use config::{ENTRY_WORDS, HEADER_WORDS, PendingFlowsConfig};
 
 // The header's words.
 const MAX_PENDING_FLOWS: usize = 0;
@@ -61,10 +61,10 @@ pub fn record_at(words: &[u64], p: usize) -> TemplateRecord
 }
 
 // The time to live that a flag and a word say.
-fn ttl_of(set: u64, ttl: u64) -> Ttl
+fn ttl_of(set: u64, ttl: u64) -> Option<u64>
     ensures { result ≡ ttl_of set ttl }
 {
-    if set == 0 { Ttl::None } else { Ttl::After(ttl) }
+    if set == 0 { None } else { Some(ttl) }
 }
 
 // The configured limits.

@@ -27,19 +27,9 @@ pub struct TemplateRecord {
     pub count: u64,
 }
 
-// A record that is looked for.
-#[derive(Clone, Copy)]
-pub enum RecordFound {
-    At(TemplateRecord),
-    Nothing,
-}
-
-// The label of a template that is looked for.
-#[derive(Clone, Copy)]
-pub enum LabelFound {
-    At(u64),
-    Nothing,
-}
+// The lent areas hold no cache: number 28.
+#[derive(Clone, Copy, Debug, PartialEq, Eq)]
+pub struct Damaged;
 
 // The bodies of a label that are not expired: how many, and their lengths together, which wrap.
 #[derive(Clone, Copy)]

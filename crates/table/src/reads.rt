@@ -8,12 +8,12 @@ ghost use Rattle.table.specs.Reads.{record_of, count_in, label_of, label_or_none
 ghost use Rattle.table.specs.Reads.{live_figures};
 
 use super::layout::{entry_at, record_at};
-use super::{Entry, LABELS, LabelFound, LiveFigures, RecordFound};
-use config::{ENTRY_WORDS, HEADER_WORDS, RECORD_WORDS, Ttl, is_expired};
+use super::{Entry, LABELS, LiveFigures};
+use config::{ENTRY_WORDS, HEADER_WORDS, RECORD_WORDS, is_expired};
 use std::num::wrapping_add_u64;
 
 // The record with this key.
-pub fn record_of(words: &[u64], from: usize, records: usize, key: u64) -> RecordFound
+pub fn record_of(words: &[u64], from: usize, records: usize, key: u64) -> Option<TemplateRecord>
     requires { from + record_words * records ≤ length words.now }
     ensures { result ≡ record_of key (records_from words.now from records) }
 {
@@ -22,33 +22,33 @@ pub fn record_of(words: &[u64], from: usize, records: usize, key: u64) -> Record
     while left > 0 {
         let template = record_at(words, p);
         if key == template.key {
-            return RecordFound::At(template);
+            return Some(template);
         }
         left -= 1;
         p += RECORD_WORDS;
     }
-    RecordFound::Nothing
+    None
 }
 
 // The label of the record with this key.
-fn label_of(words: &[u64], from: usize, records: usize, key: u64) -> LabelFound
+fn label_of(words: &[u64], from: usize, records: usize, key: u64) -> Option<u64>
     requires { from + record_words * records ≤ length words.now }
     ensures { result ≡ label_of key (records_from words.now from records) }
 {
     let found = record_of(words, from, records, key);
     match found {
-        RecordFound::At(template) => LabelFound::At(template.label),
-        RecordFound::Nothing => LabelFound::Nothing,
+        Some(template) => Some(template.label),
+        None => None,
     }
 }
 
 // How many bodies the record that was found counts; 0 where there is none.
-pub fn count_in(found: RecordFound) -> u64
+pub fn count_in(found: Option<TemplateRecord>) -> u64
     ensures { result ≡ count_in found }
 {
     match found {
-        RecordFound::At(template) => template.count,
-        RecordFound::Nothing => 0,
+        Some(template) => template.count,
+        None => 0,
     }
 }
 
@@ -65,7 +65,7 @@ pub fn label_for(words: &[u64], from: usize, records: usize, key: u64) -> u64
     requires { from + record_words * records ≤ length words.now }
     ensures { result ≡ label_or_none (label_of key (records_from words.now from records)) }
 {
-    let LabelFound::At(label) = label_of(words, from, records, key) else {
+    let Some(label) = label_of(words, from, records, key) else {
         return LABELS as u64;
     };
     label
@@ -83,7 +83,7 @@ pub fn first_label(words: &[u64], from: usize, records: usize) -> u64
 }
 
 // Whether an entry has this label and is not expired.
-fn is_live(entry: Entry, label: u64, ttl: Ttl, clock: u64) -> bool
+fn is_live(entry: Entry, label: u64, ttl: Option<u64>, clock: u64) -> bool
     ensures { result ≡ is_live ttl clock label entry }
 {
     if label != entry.label {
@@ -93,7 +93,7 @@ fn is_live(entry: Entry, label: u64, ttl: Ttl, clock: u64) -> bool
 }
 
 // How many of the entries have this label and are not expired, and their lengths together.
-pub fn live_figures(words: &[u64], entries: usize, label: u64, ttl: Ttl, clock: u64) -> LiveFigures
+pub fn live_figures(words: &[u64], entries: usize, label: u64, ttl: Option<u64>, clock: u64) -> LiveFigures
     requires { header_words + entry_words * entries ≤ length words.now }
     ensures { result ≡ live_figures ttl clock label (entries_from words.now entries_at entries) }
 {

@@ -1,5 +1,8 @@
 -- The tests of the header in their order, one law for each way out, and what they leave to the passes.
 -- Assumes nothing.
+use Rattle.std.proofs.Common.{Result, Ok, Err}
+use Rattle.std.specs.Prelude.{⊤}
+use Rattle.table.specs.declared.Damaged.{Damaged}
 use mathlib.Core.Path.{◌≡◌, refl, ap, sym, ◌∙◌}
 use mathlib.Core.Bool.{Bool, true, false, ◌&&◌, and_assoc}
 use mathlib.Core.List.{List}
@@ -11,15 +14,12 @@ use borrow.Author.Tests.{leb-true, le-leb, lt-leb, eq-eqb}
 use Rattle.config.specs.declared.PendingFlowsConfig.{PendingFlowsConfig}
 use Rattle.config.specs.declared.ConfigRefusal.{ConfigRefusal}
 use Rattle.config.specs.declared.ConfigRefusal.TheVariants.{NoTemplates, NoEntries, EntrySize, TotalBytes, Areas}
-use Rattle.config.specs.declared.ConfigAnswer.{ConfigAnswer}
-use Rattle.config.specs.declared.ConfigAnswer.TheVariants.{Accepted, Refused}
 use Rattle.config.specs.Limits.{header_words, max_bodies, refusal_number, answer_number, config_number}
 use Rattle.table.specs.Layout.{limits_of, ttl_set, held_count, entry_count, chance_count}
 use Rattle.table.specs.Table.{table_of, index}
 use Rattle.table.specs.WellFormed.{limits_legal, flags_legal, counts_legal, table_legal, well_formed}
 use Rattle.table_check.specs.Header.{HeaderLegal}
 use Rattle.table_watch.specs.declared.LabelSeen.{LabelSeen}
-use Rattle.table_watch.specs.declared.TableSeen.{TableSeen}
 use Rattle.table_watch.specs.Watch.{judged}
 use Rattle.config.proofs.Limits.{LegalLimits, limits_say, cap_small}
 use Rattle.config.proofs.Tests.{and_left, and_right, and_fails, and_holds}
@@ -70,17 +70,17 @@ module _ (w : List ℕ) (bytes : ℕ) where
   unfolding well_formed
   short_header h = rw (lt-leb header_words (length w) h)
 
-  module _ (long : header_words ≤ length w) (l : PendingFlowsConfig) (is : l ≡ limits_of w) (a : ConfigAnswer)
+  module _ (long : header_words ≤ length w) (l : PendingFlowsConfig) (is : l ≡ limits_of w) (a : Result ⊤ ConfigRefusal)
       (said : answer_number a ≡ config_number l bytes (length w)) where
     number_said : config_number (limits_of w) bytes (length w) ≡ answer_number a
     number_said = ap (λ (c : PendingFlowsConfig). config_number c bytes (length w)) (sym is) ∙ sym said
 
-    pub limits_refused : (x : ConfigRefusal) → a ≡ Refused x → false ≡ well_formed w bytes
+    pub limits_refused : (x : ConfigRefusal) → a ≡ Err x → false ≡ well_formed w bytes
     unfolding well_formed
     limits_refused x e =
         rw (le-leb header_words (length w) long, number_said, e, refused_number x)
 
-    module _ (accepted : a ≡ Accepted) where
+    module _ (accepted : a ≡ (Ok tt)) where
       legal : LegalLimits l bytes (length w)
       legal = limits_say l bytes (length w) (sym said ∙ ap answer_number accepted)
 
@@ -107,7 +107,7 @@ module _ (w : List ℕ) (bytes : ℕ) where
           table_decides : table_legal (table_of w) (index w) ≡ well_formed w bytes
           table_decides = left_to _ (and_holds _ (flags_legal w && counts_legal w) _ (sym told ∙ holds) refl)
 
-          pub table_seen : (seen : LabelSeen) {r : TableSeen} → r ≡ judged (table_legal (table_of w) (index w)) seen →
+          pub table_seen : (seen : LabelSeen) {r : Result LabelSeen Damaged} → r ≡ judged (table_legal (table_of w) (index w)) seen →
               r ≡ judged (well_formed w bytes) seen
           table_seen seen e = e ∙ ap (λ (t : Bool). judged t seen) table_decides
 

@@ -1,4 +1,6 @@
 -- What the test shows where the live bodies of an id are sought. Assumes nothing.
+use Rattle.std.proofs.Common.{Result, Ok}
+use Rattle.table.specs.declared.Damaged.{Damaged}
 use mathlib.Core.Path.{◌≡◌, ap, ◌∙◌}
 use mathlib.Core.List.{List}
 use Prim.Native.Nat.{ℕ}
@@ -8,16 +10,14 @@ use Rattle.table.specs.WellFormed.{well_formed}
 use Rattle.table.specs.Reads.{label_of, label_or_none, live_count}
 use Rattle.table_watch.specs.declared.Sought.TheVariants as Sought
 use Rattle.table_watch.specs.declared.LabelSeen.{LabelSeen}
-use Rattle.table_watch.specs.declared.TableSeen.{TableSeen}
-use Rattle.table_watch.specs.declared.TableSeen.TheVariants as Seen
 use Rattle.table_watch.specs.Watch.{watch_for, seen_by}
 use Rattle.table_watch.proofs.Verdicts.{is_seen}
 use Rattle.table_watch.proofs.LiveWatch.{watched_live}
 use Rattle.table_check.specs.Examined.{examined}
 
 -- how many there are, where no entry has the label that is none
-pub live_counted : (w : List ℕ) (n id clock : ℕ) {x : TableSeen} {s : LabelSeen} →
-    x ≡ examined w n (Sought.Live id clock) → x ≡ Seen.WellFormed s → tally 1024 (table_of w).entries ≡ 0 →
+pub live_counted : (w : List ℕ) (n id clock : ℕ) {x : Result LabelSeen Damaged} {s : LabelSeen} →
+    x ≡ examined w n (Sought.Live id clock) → x ≡ Ok s → tally 1024 (table_of w).entries ≡ 0 →
     s.live ≡ live_count (limits_of w).ttl clock (label_or_none (label_of id (table_of w).held)) (table_of w).entries
 unfolding seen_by watch_for
 live_counted w n id clock tested seen unused =

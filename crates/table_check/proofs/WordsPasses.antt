@@ -1,4 +1,7 @@
 -- The passes over words whose header is legal, in the order in which the code makes them. Assumes nothing.
+use Rattle.std.proofs.Common.{Result}
+use Rattle.table_watch.specs.declared.LabelSeen.{LabelSeen}
+use Rattle.table.specs.declared.Damaged.{Damaged}
 use mathlib.Core.Path.{◌≡◌, sym, ap, ◌∙◌}
 use mathlib.Core.Bool.{Bool, true, false, ◌&&◌}
 use mathlib.Core.List.{List}
@@ -18,7 +21,6 @@ use Rattle.table_check.specs.Room.{RoomForAllowances}
 use Rattle.table_passes.specs.Passes.{records_pass, allowed_by, Allowed, KeysSmall}
 use Rattle.table_entry_test.specs.EntriesPass.{entries_pass}
 use Rattle.table_watch.specs.declared.Sought.{Sought}
-use Rattle.table_watch.specs.declared.TableSeen.{TableSeen}
 use Rattle.table_watch.specs.declared.Watch.{Watch}
 use Rattle.table_watch.specs.Watch.{watch_for, watch_in, seen_by, judged}
 use Rattle.table.proofs.Words.{length_entries, length_records, length_index, first_records, records_behind}
@@ -116,7 +118,7 @@ module _ (l : PendingFlowsConfig) (w allow₀ : List ℕ) (header : HeaderLegal 
                 records_behind w (records_at (limits_of w)) (held_count w) (chance_count w),
               )
 
-          pub entries_seen : {r : TableSeen} →
+          pub entries_seen : {r : Result LabelSeen Damaged} →
               r ≡ judged (entries_test allow out) (seen_by v (entries_from w entries_at (entry_count w))) →
               r ≡ judged (table_legal (table_of w) (index w)) (seen_by (watch_in (table_of w) s) (table_of w).entries)
           entries_seen h = h ∙ rw (entries_decide, watch_right)

@@ -11,14 +11,13 @@ ghost use Rattle.table_check.specs.Header.{HeaderLegal};
 ghost use Rattle.table_check.specs.Room.{RoomForAllowances};
 ghost use Rattle.table_check.specs.Examined.{table_examined, examined};
 
-use config::{ConfigAnswer, HEADER_WORDS, PendingFlowsConfig, RECORD_WORDS, validate_config};
+use config::{HEADER_WORDS, PendingFlowsConfig, RECORD_WORDS, validate_config};
 use table::{
     CHANCE_COUNT, ENTRY_COUNT, FEW_LABELS, HELD_COUNT, LABELS, TOTAL, TTL_SET, first_label,
-    limits_at, records_at,
-};
+    limits_at, records_at};
 use table_entry_test::entries_pass;
 use table_passes::{index_rises, labels_below, records_pass};
-use table_watch::{Sought, TableSeen, watch_for};
+use table_watch::{LabelSeen, Sought, watch_for};
 
 // Tests the records, the index and the entries by the three passes, and looks for what is sought. What the labels are
 // allowed stands in `allow`.
@@ -27,7 +26,7 @@ fn test_table(
     allow: &mut [u32],
     limits: PendingFlowsConfig,
     sought: Sought,
-) -> TableSeen
+) -> Result<LabelSeen, Damaged>
     requires { HeaderLegal limits words.now × RoomForAllowances words.now allow.old }
     ensures { result ≡ table_examined words.now sought }
 {
@@ -38,10 +37,10 @@ fn test_table(
     let entries = words[ENTRY_COUNT];
     let cap = limits.max_entries_per_template as u64;
     if !records_pass(words, allow, from, records, cap, entries) {
-        return TableSeen::Damaged;
+        return Err(Damaged);
     }
     if !index_rises(words, from, records) {
-        return TableSeen::Damaged;
+        return Err(Damaged);
     }
     let max_size = limits.max_entry_size_bytes as u64;
     let max_total = limits.max_total_bytes as u64;
@@ -61,7 +60,7 @@ fn test_table(
 }
 
 // Tests a table whose header is legal, and looks for what is sought.
-fn examine_table(words: &[u64], limits: PendingFlowsConfig, sought: Sought) -> TableSeen
+fn examine_table(words: &[u64], limits: PendingFlowsConfig, sought: Sought) -> Result<LabelSeen, Damaged>
     requires { HeaderLegal limits words.now }
     ensures { result ≡ table_examined words.now sought }
 {
@@ -97,18 +96,18 @@ fn counts_legal(words: &[u64], limits: PendingFlowsConfig) -> bool
 }
 
 // Whether the words, beside so many bytes, hold a well-formed table, and what is seen of what is sought in it.
-pub fn examine(words: &[u64], bytes_len: usize, sought: Sought) -> TableSeen
+pub fn examine(words: &[u64], bytes_len: usize, sought: Sought) -> Result<LabelSeen, Damaged>
     ensures { result ≡ examined words.now bytes_len sought }
 {
     if words.len() < HEADER_WORDS {
-        return TableSeen::Damaged;
+        return Err(Damaged);
     }
     let limits = limits_at(words);
-    let ConfigAnswer::Accepted = validate_config(limits, bytes_len, words.len()) else {
-        return TableSeen::Damaged;
+    let Ok(()) = validate_config(limits, bytes_len, words.len()) else {
+        return Err(Damaged);
     };
     if !counts_legal(words, limits) {
-        return TableSeen::Damaged;
+        return Err(Damaged);
     }
     examine_table(words, limits, sought)
 }
@@ -117,7 +116,7 @@ pub fn examine(words: &[u64], bytes_len: usize, sought: Sought) -> TableSeen
 pub fn well_formed(words: &[u64], bytes_len: usize) -> bool
     ensures { result ≡ well_formed words.now bytes_len }
 {
-    let TableSeen::WellFormed(_) = examine(words, bytes_len, Sought::Nothing) else {
+    let Ok(_) = examine(words, bytes_len, Sought::Nothing) else {
         return false;
     };
     true

@@ -6,7 +6,7 @@ mod stay;
 mod sums;
 mod sweeps;
 
-use config::Ttl;
+
 pub use pack::{Run, last_end, move_run, pack_bodies, run_up_to};
 pub use stay::stays;
 pub use sums::sums_by_label;
@@ -16,7 +16,7 @@ pub use sweeps::{Kept, move_entry, put_entry, sweep};
 // too large.
 #[derive(Clone, Copy)]
 pub struct StayTest {
-    pub ttl: Ttl,
+    pub ttl: Option<u64>,
     pub clock: u64,
     pub all: bool,
     pub label: u64,

@@ -12,7 +12,7 @@ ghost use Rattle.table_entry_test.specs.EntriesPass.{entry_fits, one_less, entri
 
 use config::{ENTRY_WORDS, HEADER_WORDS, MAX_BYTES};
 use table::{Entry, entry_at};
-use table_watch::{Passed, TableSeen, Watch, label_seen, pass_entry};
+use table_watch::{LabelSeen, Passed, Watch, label_seen, pass_entry};
 
 // Whether a body is within the entry size, and begins at `end` or above, within the longest area. Bodies follow one
 // another, so where they end is tested of the last one alone.
@@ -54,7 +54,7 @@ pub fn entries_pass(
     out: u64,
     total: u64,
     watch: Watch,
-) -> TableSeen
+) -> Result<LabelSeen, Damaged>
     requires entries_in_bounds { entries_at + entry_words * entries ≤ length words.now }
     requires max_size_bound { max_size ≤ 67108864 }
     ensures { result ≡ judged (entries_pass max_size max_total out total 0 allow.old 0
@@ -69,16 +69,16 @@ pub fn entries_pass(
     while entries_left > 0 {
         let entry = entry_at(words, p);
         if (allow.len() as u64) <= entry.label {
-            return TableSeen::Damaged;
+            return Err(Damaged);
         }
         let label = entry.label as usize;
         let allowed = allow[label];
         allow[label] = one_less(allowed);
         if allowed == 0 {
-            return TableSeen::Damaged;
+            return Err(Damaged);
         }
         if !entry_fits(entry, max_size, end) {
-            return TableSeen::Damaged;
+            return Err(Damaged);
         }
         end = entry.place + entry.len;
         held += held_len(entry, out);
@@ -87,10 +87,10 @@ pub fn entries_pass(
         p += ENTRY_WORDS;
     }
     if max_total < end {
-        return TableSeen::Damaged;
+        return Err(Damaged);
     }
     if held != total {
-        return TableSeen::Damaged;
+        return Err(Damaged);
     }
-    TableSeen::WellFormed(label_seen(words, entries, passed, watch.nth))
+    Ok(label_seen(words, entries, passed, watch.nth))
 }

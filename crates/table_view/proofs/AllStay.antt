@@ -1,4 +1,5 @@
 -- Where every entry stays: the sweep keeps them all. Assumes nothing.
+use Rattle.std.proofs.Common.{Option, None}
 use mathlib.Core.Path.{◌≡◌, refl}
 use mathlib.Core.Bool.{Bool, true, false, not, ◌&&◌, ◌||◌, cond, and-false}
 use mathlib.Core.List.{List, [], ◌∷◌}
@@ -7,8 +8,6 @@ use native.Mathlib.Omega.{arith}
 use lib.Dec.{eqb}
 use lib.ListN.{get_or, get_or-replicate}
 use borrow.Author.Tests.{le-leb}
-use Rattle.config.specs.declared.Ttl.{Ttl}
-use Rattle.config.specs.declared.Ttl.TheVariants.{None}
 use Rattle.config.specs.Age.{expired_at}
 use Rattle.config.proofs.Lists.{All, all_map, all_both}
 use Rattle.table.specs.declared.Entry.{Entry}
@@ -36,7 +35,7 @@ all_live clock k (e ∷ es) = by_label (eqb k e.label) (all_live clock k es)
     by_label true ih = omega arith
     by_label false ih = omega arith
 
-module _ (ttl : Ttl) (clock k : ℕ) where
+module _ (ttl : Option ℕ) (clock k : ℕ) where
   live_most : (es : List Entry) → live_count ttl clock k es ≤ tally k es
   unfolding live_count
   live_most [] = omega arith

@@ -1,4 +1,5 @@
 -- The sums by label over the entries that stay by themselves, as sums over the bodies of the label. Assumes nothing.
+use Rattle.std.proofs.Common.{None}
 use mathlib.Core.Path.{◌≡◌, refl, sym, ◌∙◌}
 use mathlib.Core.Bool.{Bool, true, false, ◌&&◌, cond, and-false}
 use mathlib.Core.List.{List, [], ◌∷◌}
@@ -7,7 +8,6 @@ use native.Mathlib.Omega.{arith}
 use lib.Dec.{eqb}
 use lib.ListN.{length, get_or}
 use borrow.Author.Tests.{eqb-true, le-leb}
-use Rattle.config.specs.declared.Ttl.TheVariants.{None}
 use Rattle.config.proofs.Lists.{All, all_map, all_both}
 use Rattle.table.specs.declared.Entry.{Entry}
 use Rattle.table.specs.Table.{tally}

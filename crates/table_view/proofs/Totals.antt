@@ -1,4 +1,5 @@
 -- The sum of held lengths, entry by entry, is the byte total of the held templates. Assumes nothing.
+use Rattle.std.proofs.Common.{Option}
 use mathlib.Core.Path.{◌≡◌, refl, ap, sym, ◌∙◌}
 use mathlib.Core.Bool.{Bool, true, false, not, ◌&&◌, ◌||◌, cond, false≢true}
 use mathlib.Core.List.{List, [], ◌∷◌}
@@ -7,7 +8,6 @@ use native.Mathlib.Omega.{arith}
 use lib.Dec.{eqb}
 use lib.ListN.{length}
 use borrow.Author.Tests.{eqb-true}
-use Rattle.config.specs.declared.Ttl.{Ttl}
 use Rattle.config.specs.Age.{expired_at}
 use Rattle.config.proofs.Lists.{All}
 use Rattle.config.proofs.Tests.{or_other}
@@ -94,7 +94,7 @@ lens_apart b {a} {rs} {es} tied = by_entries es tied.labels_known
         (by_entries es h.1 within.1)
 
 -- the lengths of a label's live entries are those of its unexpired bodies
-pub live_lens_lem : (b : List ℕ) (ttl : Ttl) (now k : ℕ) (es : List Entry) → Within (length b) es →
+pub live_lens_lem : (b : List ℕ) (ttl : Option ℕ) (now k : ℕ) (es : List Entry) → Within (length b) es →
     live_lens ttl now k es ≡ sum_bodies size (keep (λ x. not (expired ttl now x)) (bodies_at b k es))
 unfolding live_lens
 live_lens_lem b ttl now k [] within = refl

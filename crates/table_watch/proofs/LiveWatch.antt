@@ -1,4 +1,5 @@
 -- The watch for a label's live entries counts them, where no entry has what is no label. Assumes nothing.
+use Rattle.std.proofs.Common.{Option, Some, None}
 use mathlib.Core.Path.{◌≡◌, refl, ◌∙◌}
 use mathlib.Core.Bool.{Bool, true, false, not, ◌&&◌, cond}
 use mathlib.Core.List.{List, [], ◌∷◌}
@@ -7,8 +8,6 @@ use native.Mathlib.Omega.{arith}
 use native.Mathlib.Decide.{ℕ_discrete, dec_le}
 use lib.Dec.{eqb, leb}
 use borrow.Author.Tests.{ne_eqb, le-leb, lt-leb}
-use Rattle.config.specs.declared.Ttl.{Ttl}
-use Rattle.config.specs.declared.Ttl.TheVariants.{None, After}
 use Rattle.table.specs.declared.Entry.{Entry}
 use Rattle.table_watch.specs.declared.Watch.{Watch}
 use Rattle.table.specs.Table.{tally}
@@ -20,14 +19,14 @@ pub any_clock : (k nth : ℕ) (e : Entry) → is_watched (watch_of k 0 nth) e �
 any_clock k nth e = rw (le-leb 0 e.clock (omega arith))
 
 -- two tests that agree count alike
-same_count : (v : Watch) (ttl : Ttl) (clock label : ℕ) (es : List Entry) →
+same_count : (v : Watch) (ttl : Option ℕ) (clock label : ℕ) (es : List Entry) →
     ((e : Entry) → is_watched v e ≡ is_live ttl clock label e) → count_watched v es ≡ live_count ttl clock label es
 unfolding count_watched live_count
 same_count v ttl clock label [] h = refl
 same_count v ttl clock label (e ∷ es) h = rw (h e, same_count v ttl clock label es h)
 
 -- with a TTL of 0 none is live, and none of no label is watched
-none_live : (clock label : ℕ) (es : List Entry) → live_count (After 0) clock label es ≡ 0
+none_live : (clock label : ℕ) (es : List Entry) → live_count (Some 0) clock label es ≡ 0
 unfolding live_count
 none_live clock label [] = refl
 none_live clock label (e ∷ es) =
@@ -55,18 +54,18 @@ oldest_live ttl clock c some (yes h) =
 oldest_live ttl clock c some (no h) =
     rw (lt-leb ttl (clock - c) (omega arith), le-leb (clock + 1 - ttl) c (omega arith))
 
-pub watched_live : (label : ℕ) (ttl : Ttl) (clock : ℕ) (es : List Entry) → tally 1024 es ≡ 0 →
+pub watched_live : (label : ℕ) (ttl : Option ℕ) (clock : ℕ) (es : List Entry) → tally 1024 es ≡ 0 →
     count_watched (live_watch label ttl clock) es ≡ live_count ttl clock label es
 unfolding live_watch
 watched_live label None clock es unused =
     same_count (watch_of label 0 0) None clock label es (λ e. any_clock label 0 e)
-watched_live label (After ttl) clock es unused = by_ttl (ℕ_discrete ttl 0)
+watched_live label (Some ttl) clock es unused = by_ttl (ℕ_discrete ttl 0)
   where
     by_ttl : Dec (ttl ≡ 0) →
         count_watched (cond (eqb ttl 0) (watch_of 1024 0 0) (watch_of label (clock + 1 - ttl) 0)) es
-        ≡ live_count (After ttl) clock label es
+        ≡ live_count (Some ttl) clock label es
     by_ttl (yes z) = rw (z, none_live clock label es) (watched_tally 1024 0 es ∙ unused)
     by_ttl (no z) =
         rw (ne_eqb ttl 0 z)
-        (same_count (watch_of label (clock + 1 - ttl) 0) (After ttl) clock label es
+        (same_count (watch_of label (clock + 1 - ttl) 0) (Some ttl) clock label es
         (λ e. rw (oldest_live ttl clock e.clock z (dec_le ttl (clock - e.clock)))))

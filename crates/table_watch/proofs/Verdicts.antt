@@ -1,39 +1,39 @@
 -- What a verdict shows of what was seen. Assumes nothing.
+use Rattle.std.proofs.Common.{Result, Ok, Err}
+use Rattle.table.specs.declared.Damaged.{Damaged}
 use mathlib.Core.Path.{◌≡◌, refl, sym, ◌∙◌}
 use mathlib.Core.Bool.{Bool, true, false, cond}
 use Prim.Native.Nat.{ℕ}
 use native.Mathlib.Omega.{arith}
 use Rattle.table_watch.specs.declared.LabelSeen.{LabelSeen}
-use Rattle.table_watch.specs.declared.TableSeen.{TableSeen}
-use Rattle.table_watch.specs.declared.TableSeen.TheVariants as Seen
 use Rattle.table_watch.specs.Watch.{judged}
 
 -- A verdict that is not good shows nothing; one that is good shows what was seen.
 module _ {legal : Bool} where
-  pub damaged : false ≡ legal → (seen : LabelSeen) → Seen.Damaged ≡ judged legal seen
+  pub damaged : false ≡ legal → (seen : LabelSeen) → (Err Damaged) ≡ judged legal seen
   unfolding judged
   damaged e seen = rw (← e)
 
-  pub shown : true ≡ legal → {s seen : LabelSeen} → s ≡ seen → Seen.WellFormed s ≡ judged legal seen
+  pub shown : true ≡ legal → {s seen : LabelSeen} → s ≡ seen → Ok s ≡ judged legal seen
   unfolding judged
   shown e h = rw (← e, h)
 
 -- What a verdict shows says what it was.
-module _ (legal : Bool) (seen : LabelSeen) {r : TableSeen} (is : r ≡ judged legal seen) where
-  pub is_damaged : r ≡ Seen.Damaged → false ≡ legal
+module _ (legal : Bool) (seen : LabelSeen) {r : Result LabelSeen Damaged} (is : r ≡ judged legal seen) where
+  pub is_damaged : r ≡ (Err Damaged) → false ≡ legal
   unfolding judged
   is_damaged e = by_verdict legal (sym e ∙ is)
     where
-      by_verdict : (t : Bool) → Seen.Damaged ≡ cond t (Seen.WellFormed seen) Seen.Damaged → false ≡ t
+      by_verdict : (t : Bool) → (Err Damaged) ≡ cond t (Ok seen) (Err Damaged) → false ≡ t
       by_verdict true h = let z : ◌≡◌ {A = ℕ} 0 1 = cc in absurd (omega arith)
       by_verdict false h = refl
 
-  module _ {s : LabelSeen} (e : r ≡ Seen.WellFormed s) where
+  module _ {s : LabelSeen} (e : r ≡ Ok s) where
     both : (true ≡ legal) × (s ≡ seen)
     unfolding judged
     both = by_verdict legal (sym e ∙ is)
       where
-        by_verdict : (t : Bool) → Seen.WellFormed s ≡ cond t (Seen.WellFormed seen) Seen.Damaged →
+        by_verdict : (t : Bool) → Ok s ≡ cond t (Ok seen) (Err Damaged) →
             (true ≡ t) × (s ≡ seen)
         by_verdict true h = (refl, cc)
         by_verdict false h = let z : ◌≡◌ {A = ℕ} 0 1 = cc in absurd (omega arith)

@@ -1,5 +1,6 @@
 -- The watch beside the pass over the entries: how many watched ones were passed, and where the kept one stands.
 -- Assumes nothing.
+use Rattle.std.proofs.Common.{Option, Some, None}
 use mathlib.Core.Path.{◌≡◌, refl, ap, sym, ◌∙◌}
 use mathlib.Core.Bool.{Bool, true, false, cond}
 use mathlib.Core.List.{List}
@@ -8,13 +9,9 @@ use native.Mathlib.Omega.{arith}
 use native.Mathlib.Decide.{ℕ_discrete, dec_lt}
 use lib.Dec.{eqb, ltb}
 use borrow.Author.Tests.{eq-eqb, ne_eqb, lt-ltb, le-ltb, le-leb, lt-leb}
-use Rattle.config.specs.declared.Ttl.{Ttl}
-use Rattle.config.specs.declared.Ttl.TheVariants.{None, After}
 use Rattle.config.specs.Limits.{entry_words}
 use Rattle.table.specs.declared.Entry.{Entry}
 use Rattle.table.specs.declared.TemplateRecord.{TemplateRecord}
-use Rattle.table_watch.specs.declared.EntryFound.{EntryFound}
-use Rattle.table_watch.specs.declared.EntryFound.TheVariants as Found
 use Rattle.table_watch.specs.declared.Sought.{Sought}
 use Rattle.table_watch.specs.declared.LabelSeen.{LabelSeen}
 use Rattle.table_watch.specs.declared.Watch.{Watch}
@@ -27,12 +24,12 @@ use Rattle.table_watch.specs.Watch.{kept_of, passed_more, label_seen}
 use Rattle.table.proofs.Words.{entries_none, entries_first}
 
 -- The watch for a label's live entries, by the TTL.
-module _ (label clock : ℕ) {ttl : Ttl} where
+module _ (label clock : ℕ) {ttl : Option ℕ} where
   pub no_ttl : ttl ≡ None → watch_of label 0 0 ≡ live_watch label ttl clock
   unfolding live_watch
   no_ttl e = rw e
 
-  module _ {limit : ℕ} (set : ttl ≡ After limit) where
+  module _ {limit : ℕ} (set : ttl ≡ Some limit) where
     pub all_expired : limit ≡ 0 → watch_of 1024 0 0 ≡ live_watch label ttl clock
     unfolding live_watch
     all_expired h = rw (set, eq-eqb limit 0 h)
@@ -49,7 +46,7 @@ module _ (label clock : ℕ) {ttl : Ttl} where
       from_oldest h = oldest_is (omega arith)
 
 -- The watch for what is sought.
-module _ (held : List TemplateRecord) (ttl : Ttl) (out : ℕ) {s : Sought} where
+module _ (held : List TemplateRecord) (ttl : Option ℕ) (out : ℕ) {s : Sought} where
   pub nothing_sought : s ≡ Sought.Nothing → watch_of 1024 0 0 ≡ watch_for held ttl out s
   unfolding watch_for
   nothing_sought e = rw e
@@ -105,10 +102,10 @@ module _ (watch : Watch) (e : Entry) (left : ℕ) (passed : Passed) where
           k,
         )
 
-abbrev seen_as : ℕ → EntryFound → LabelSeen
+abbrev seen_as : ℕ → Option Entry → LabelSeen
 seen_as live found = record { live = live; found = found }
 
-same_seen : {a b : ℕ} {f g : EntryFound} → a ≡ b → f ≡ g → seen_as a f ≡ seen_as b g
+same_seen : {a b : ℕ} {f g : Option Entry} → a ≡ b → f ≡ g → seen_as a f ≡ seen_as b g
 same_seen e h = cc
 
 -- where an entry stands, by how many are left at it
@@ -118,11 +115,11 @@ left_at entries left = entries_at + entry_words * (entries - left)
 -- what is read at the end
 module _ (w : List ℕ) (entries nth : ℕ) (passed : Passed) where
   pub one_kept : {e : Entry} → nth < passed.live → e ≡ entry_at w (left_at entries passed.left) →
-      seen_as passed.live (Found.At e) ≡ label_seen w entries nth passed
+      seen_as passed.live (Some e) ≡ label_seen w entries nth passed
   unfolding label_seen
   one_kept h k = rw (lt-ltb nth passed.live h, k)
 
-  pub none_kept : passed.live ≤ nth → seen_as passed.live Found.Nothing ≡ label_seen w entries nth passed
+  pub none_kept : passed.live ≤ nth → seen_as passed.live None ≡ label_seen w entries nth passed
   unfolding label_seen
   none_kept h = rw (le-ltb nth passed.live h)
 
@@ -136,7 +133,7 @@ pub record Watched (w : List ℕ) (watch : Watch) (entries : ℕ) (passed : Pass
       ≡ passed.live + count_watched watch (entries_from w p left)
   -- the sought one, where it was passed
   pub within : watch.nth < passed.live → (0 < passed.left) × (passed.left ≤ entries)
-  pub kept : watch.nth < passed.live → Found.At (entry_at w (left_at entries passed.left))
+  pub kept : watch.nth < passed.live → Some (entry_at w (left_at entries passed.left))
       ≡ nth_watched watch watch.nth (entries_from w entries_at entries)
   -- else it is among those left
   pub ahead : passed.live ≤ watch.nth → nth_watched watch (watch.nth - passed.live) (entries_from w p left)
@@ -170,13 +167,13 @@ module _ (w : List ℕ) (watch : Watch) (entries : ℕ) where
       next_count = rw (entries_first w p left more e is)
 
       next : (k : ℕ) → nth_watched watch k (entries_from w p left) ≡ cond (is_watched watch e)
-          (cond (eqb k 0) (Found.At e) (nth_watched watch (k - 1) rest)) (nth_watched watch k rest)
+          (cond (eqb k 0) (Some e) (nth_watched watch (k - 1) rest)) (nth_watched watch k rest)
       unfolding nth_watched
       next k = rw (entries_first w p left more e is)
 
       -- the entry is watched: it is the kept one, or one that was passed before is, or it is further on
       module _ (test : true ≡ is_watched watch e) where
-        here : watch.nth ≡ passed.live → Found.At e ≡ nth_watched watch watch.nth all
+        here : watch.nth ≡ passed.live → Some e ≡ nth_watched watch watch.nth all
         here h =
             let z : watch.nth - passed.live ≡ 0 = omega arith in
             sym (rw (← test) at (next 0)) ∙ (rw z at (inv.ahead (omega arith)))
@@ -189,7 +186,7 @@ module _ (w : List ℕ) (watch : Watch) (entries : ℕ) where
             (inv.within (omega arith))
 
         kept_one : watch.nth < passed.live + 1 → Dec (passed.live ≡ watch.nth) →
-            Found.At (entry_at w (left_at entries kept_then)) ≡ nth_watched watch watch.nth all
+            Some (entry_at w (left_at entries kept_then)) ≡ nth_watched watch watch.nth all
         kept_one n (yes d) =
             let at : left_at entries left ≡ p = omega (arith, inv.reached, inv.few) in
             rw (← kept_here passed.live watch.nth passed.left left d, at, ← is) (here (sym d))
@@ -236,7 +233,7 @@ module _ (w : List ℕ) (watch : Watch) (entries : ℕ) where
           omega (arith, inv.counted)
 
       found_at_end : Dec (watch.nth < passed.live) →
-          cond (ltb watch.nth passed.live) (Found.At (entry_at w (left_at entries passed.left))) Found.Nothing
+          cond (ltb watch.nth passed.live) (Some (entry_at w (left_at entries passed.left))) None
           ≡ nth_watched watch watch.nth all
       unfolding nth_watched
       found_at_end (yes n) = rw (lt-ltb _ _ n) (inv.kept n)

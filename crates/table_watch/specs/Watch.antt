@@ -1,16 +1,12 @@
 -- What is watched while the entries are tested, and what was seen of it at the end.
+use Rattle.std.specs.Prelude.{Option, Some, None, Result, Ok, Err}
+use Rattle.table.specs.declared.Damaged.{Damaged}
 use Rattle.std.specs.Prelude.{List, [], ◌∷◌, Bool, ◌&&◌, cond, ℕ, ◌+◌, ◌*◌, ◌-◌, eqb, leb, ltb}
-use Rattle.config.specs.declared.Ttl.{Ttl}
-use Rattle.config.specs.declared.Ttl.TheVariants.{None, After}
 use Rattle.config.specs.Limits.{entry_words}
 use Rattle.table.specs.declared.Entry.{Entry}
 use Rattle.table.specs.declared.TemplateRecord.{TemplateRecord}
-use Rattle.table_watch.specs.declared.EntryFound.{EntryFound}
-use Rattle.table_watch.specs.declared.EntryFound.TheVariants as Found
 use Rattle.table_watch.specs.declared.Sought.{Sought}
 use Rattle.table_watch.specs.declared.LabelSeen.{LabelSeen}
-use Rattle.table_watch.specs.declared.TableSeen.{TableSeen}
-use Rattle.table_watch.specs.declared.TableSeen.TheVariants as Seen
 use Rattle.table_watch.specs.declared.Watch.{Watch}
 use Rattle.table_watch.specs.declared.Passed.{Passed}
 use Rattle.table.specs.Layout.{entries_at}
@@ -28,22 +24,22 @@ count_watched v [] = 0
 count_watched v (e ∷ es) = cond (is_watched v e) 1 0 + count_watched v es
 
 -- the k-th of them, from 0
-unfoldable pub nth_watched : Watch → ℕ → List Entry → EntryFound
-nth_watched v k [] = Found.Nothing
+unfoldable pub nth_watched : Watch → ℕ → List Entry → Option Entry
+nth_watched v k [] = None
 nth_watched v k (e ∷ es) =
-    cond (is_watched v e) (cond (eqb k 0) (Found.At e) (nth_watched v (k - 1) es)) (nth_watched v k es)
+    cond (is_watched v e) (cond (eqb k 0) (Some e) (nth_watched v (k - 1) es)) (nth_watched v k es)
 
 abbrev pub watch_of : ℕ → ℕ → ℕ → Watch
 watch_of label oldest nth = record { label = label; oldest = oldest; nth = nth }
 
 -- the entries of a label that are not expired; with a TTL of 0 all are, and what is watched for is no label
-unfoldable pub live_watch : ℕ → Ttl → ℕ → Watch
+unfoldable pub live_watch : ℕ → Option ℕ → ℕ → Watch
 live_watch label None clock = watch_of label 0 0
-live_watch label (After ttl) clock = cond (eqb ttl 0) (watch_of 1024 0 0) (watch_of label (clock + 1 - ttl) 0)
+live_watch label (Some ttl) clock = cond (eqb ttl 0) (watch_of 1024 0 0) (watch_of label (clock + 1 - ttl) 0)
 
 -- by the held records, the TTL and the handed-out label: an id's live entries, or the k-th handed-out one, expired or
 -- not
-unfoldable pub watch_for : List TemplateRecord → Ttl → ℕ → Sought → Watch
+unfoldable pub watch_for : List TemplateRecord → Option ℕ → ℕ → Sought → Watch
 watch_for held ttl out Sought.Nothing = watch_of 1024 0 0
 watch_for held ttl out (Sought.Live id clock) = live_watch (label_or_none (label_of id held)) ttl clock
 watch_for held ttl out (Sought.HandedOut k) = watch_of out 0 k
@@ -57,8 +53,8 @@ unfoldable pub seen_by : Watch → List Entry → LabelSeen
 seen_by v es = record { live = count_watched v es; found = nth_watched v v.nth es }
 
 -- a verdict, with what was seen where it is good
-unfoldable pub judged : Bool → LabelSeen → TableSeen
-judged legal seen = cond legal (Seen.WellFormed seen) Seen.Damaged
+unfoldable pub judged : Bool → LabelSeen → Result LabelSeen Damaged
+judged legal seen = cond legal (Ok seen) (Err Damaged)
 
 -- As the loop goes: an entry is passed with `left` left, and what was passed is read at the end.
 unfoldable pub kept_of : ℕ → ℕ → ℕ → ℕ → ℕ
@@ -71,5 +67,5 @@ passed_more v e left c =
 unfoldable pub label_seen : List ℕ → ℕ → ℕ → Passed → LabelSeen
 label_seen w entries nth c = record {
   live = c.live;
-  found = cond (ltb nth c.live) (Found.At (entry_at w (entries_at + entry_words * (entries - c.left)))) Found.Nothing;
+  found = cond (ltb nth c.live) (Some (entry_at w (entries_at + entry_words * (entries - c.left)))) None;
 }

@@ -6,15 +6,8 @@ ghost use Rattle.config.specs.Limits.{header_words, record_words, entry_words};
 ghost use Rattle.table.specs.Table.{records_from, entry_at};
 ghost use Rattle.table_watch.specs.Watch.{live_watch, watch_for, kept_of, passed_more, label_seen};
 
-use config::{ENTRY_WORDS, HEADER_WORDS, Ttl};
+use config::{ENTRY_WORDS, HEADER_WORDS};
 use table::{Entry, LABELS, entry_at, label_for};
-
-// An entry that is looked for.
-#[derive(Clone, Copy)]
-pub enum EntryFound {
-    At(Entry),
-    Nothing,
-}
 
 // What is looked for while a table is tested.
 #[derive(Clone, Copy)]
@@ -30,15 +23,7 @@ pub enum Sought {
 #[derive(Clone, Copy)]
 pub struct LabelSeen {
     pub live: usize,
-    pub found: EntryFound,
-}
-
-// A table that was tested.
-#[derive(Clone, Copy)]
-pub enum TableSeen {
-    WellFormed(LabelSeen),
-    // number 28
-    Damaged,
+    pub found: Option<Entry>,
 }
 
 // The entries that are watched: those of a label with a clock reading of `oldest` or later. The one with `nth` of them
@@ -59,10 +44,10 @@ pub struct Passed {
 
 // The watch for the entries of a label that are not expired at a clock reading. With a TTL of 0 all are, and what is
 // watched for is no label.
-fn live_watch(label: u64, ttl: Ttl, clock: u64) -> Watch
+fn live_watch(label: u64, ttl: Option<u64>, clock: u64) -> Watch
     ensures { result ≡ live_watch label ttl clock }
 {
-    let Ttl::After(limit) = ttl else {
+    let Some(limit) = ttl else {
         return Watch {
             label,
             oldest: 0,
@@ -95,7 +80,7 @@ pub fn watch_for(
     words: &[u64],
     from: usize,
     held: usize,
-    ttl: Ttl,
+    ttl: Option<u64>,
     out: u64,
     sought: Sought,
 ) -> Watch
@@ -159,7 +144,7 @@ pub fn label_seen(words: &[u64], entries: usize, passed: Passed, nth: usize) -> 
 {
     if nth < passed.live {
         let p = HEADER_WORDS + ENTRY_WORDS * (entries - passed.left);
-        let found = EntryFound::At(entry_at(words, p));
+        let found = Some(entry_at(words, p));
         return LabelSeen {
             live: passed.live,
             found,
@@ -167,6 +152,6 @@ pub fn label_seen(words: &[u64], entries: usize, passed: Passed, nth: usize) -> 
     }
     LabelSeen {
         live: passed.live,
-        found: EntryFound::Nothing,
+        found: None,
     }
 }

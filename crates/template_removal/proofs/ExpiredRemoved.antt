@@ -1,5 +1,6 @@
 -- The removal of the expired bodies of a label, from the steps of the code: its expired entries are swept, and its
 -- record is taken off, where there is one. Assumes nothing.
+use Rattle.std.proofs.Common.{Option}
 use mathlib.Core.Path.{◌≡◌, refl, sym, ap, ◌∙◌}
 use mathlib.Core.Bool.{Bool, true, false, cond}
 use mathlib.Core.List.{List}
@@ -9,7 +10,6 @@ use lib.Dec.{eqb, ltb}
 use lib.ListN.{length, get_or, replicate, length-replicate, get_or-replicate, get_or-eq_default}
 use lib.Seq.{get_or-set_other}
 use borrow.Author.Tests.{eqb-true, eqb-false, ltb-true, ltb-false, ne_eqb, le-leb}
-use Rattle.config.specs.declared.Ttl.{Ttl}
 use Rattle.config.specs.declared.PendingFlowsConfig.{PendingFlowsConfig}
 use Rattle.config.specs.Limits.{record_words, entry_words}
 use Rattle.config.proofs.Lists.{All, all_map, all_both}
@@ -47,7 +47,7 @@ use Rattle.table_promotion.specs.declared.taking.Taken.{Taken}
 use Rattle.table_promotion.specs.Taking.{TakesLabel}
 use Rattle.table_promotion.proofs.TakenLabels.{label_closes}
 
-module _ (w : List ℕ) (n : ℕ) (ok : well_formed w n ≡ true) (ttl : Ttl) (now label : ℕ) where
+module _ (w : List ℕ) (n : ℕ) (ok : well_formed w n ≡ true) (ttl : Option ℕ) (now label : ℕ) where
   legal : LegalWords w n
   legal = words_say w n ok
 

@@ -1,5 +1,6 @@
 -- The removal of one template that packs in the same pass: what it leaves is what a removal alone leaves, packed.
 -- Assumes nothing.
+use Rattle.std.proofs.Common.{Some}
 use mathlib.Core.Path.{◌≡◌, sym, ap, ◌∙◌}
 use mathlib.Core.Bool.{true}
 use mathlib.Core.List.{List}
@@ -8,7 +9,6 @@ use native.Mathlib.Nat.{mod-eq_of_lt}
 use native.Mathlib.Omega.{arith}
 use lib.ListN.{length, set, replicate}
 use Rattle.config.specs.declared.PendingFlowsConfig.{PendingFlowsConfig}
-use Rattle.config.specs.declared.Ttl.TheVariants.{After}
 use Rattle.config.specs.Limits.{record_words, entry_words}
 use Rattle.table.specs.declared.Entry.{Entry}
 use Rattle.table.specs.Layout.{limits_of, held_count, entry_count, chance_count, entries_at, records_at}
@@ -134,7 +134,7 @@ module _ (w b : List ℕ) (ok : well_formed w (length b) ≡ true) where
 
   pub packing_removed : (label apart : ℕ) {f : HeaderFigures} {l : PendingFlowsConfig} {p : ℕ} → f ≡ figures_at w →
       l ≡ limits_of w → p ≡ records_at l → {w₁ w' b' : List ℕ} {left : Kept} {q : StayTest} {r : Removed} →
-      q ≡ unexpired (After 0) 0 label →
+      q ≡ unexpired (Some 0) 0 label →
       KeepsPacked (kept_by (stays q) (entries_from w entries_at f.entries)) f.entries w b w₁ b' left.entries
       left.bytes →
       TakesBoth label apart p (f.templates + f.chance) left w₁ w' r → length b < 2 ^ 64 → length w' ≡ length w →

@@ -1,5 +1,6 @@
 -- The removal of one template, from the steps of the code: the entries of its label are swept, its record is taken off,
 -- and then that of the label apart, where there is one. Assumes nothing.
+use Rattle.std.proofs.Common.{Some}
 use mathlib.Core.Path.{◌≡◌, refl, sym, ap, ◌∙◌}
 use mathlib.Core.Bool.{Bool, true, false, cond, ◌&&◌, and-false, false≢true}
 use mathlib.Core.List.{List}
@@ -11,7 +12,6 @@ use lib.ListN.{length, get_or, set, replicate, length-replicate, get_or-eq_defau
 use lib.Seq.{get_or-set_other}
 use borrow.Author.Tests.{eqb-true, eqb-false, ltb-true, ltb-false}
 use Rattle.config.specs.declared.PendingFlowsConfig.{PendingFlowsConfig}
-use Rattle.config.specs.declared.Ttl.TheVariants.{After}
 use Rattle.config.specs.Limits.{record_words, entry_words}
 use Rattle.config.specs.Age.{expired_at}
 use Rattle.config.proofs.Lists.{All, all_of, all_both}
@@ -279,7 +279,7 @@ module _ (w : List ℕ) (n : ℕ) (ok : well_formed w n ≡ true) (label apart :
 
 -- with the limits and the figures that were read
 module _ (w : List ℕ) (n : ℕ) (ok : well_formed w n ≡ true) (label apart : ℕ) {f : HeaderFigures} {q : StayTest}
-    (figures : f ≡ figures_at w) (test : q ≡ unexpired (After 0) 0 label) where
+    (figures : f ≡ figures_at w) (test : q ≡ unexpired (Some 0) 0 label) where
   -- the entries of the other labels
   abbrev others : List Entry
   others = kept_by (stays q) (entries_from w entries_at f.entries)

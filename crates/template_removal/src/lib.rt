@@ -13,7 +13,7 @@ ghost use Rattle.pending_flows.specs.Header.{figures_at};
 ghost use Rattle.pending_calls.specs.Removal.{everything, RemovesFrom};
 ghost use Rattle.template_removal.specs.Taking.{TakesBoth};
 
-use config::{PendingFlowsConfig, Ttl};
+use config::{PendingFlowsConfig};
 use entry_sweeps::sweep_staying;
 pub use expired::remove_expired_of;
 pub use packing::remove_packing;
@@ -64,7 +64,7 @@ pub fn remove_template(
     let from = records_at(limits);
     let records = (figures.templates + figures.chance) as usize;
     // by a TTL of 0 every body of the label is expired
-    let test = label_test(Ttl::After(0), 0, label);
+    let test = label_test(Some(0), 0, label);
     let left = sweep_staying(words, figures.entries as usize, test);
     take_both(words, from, records, left, label, apart)
 }

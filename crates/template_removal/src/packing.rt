@@ -8,7 +8,7 @@ ghost use Rattle.pending_calls.specs.Removal.{everything};
 ghost use Rattle.template_removal.specs.Packing.{RemovesPacking};
 
 use super::take_both;
-use config::{PendingFlowsConfig, Ttl};
+use config::{PendingFlowsConfig};
 use entry_sweeps::sweep_packing;
 use pending_calls::{Removed, label_test};
 use pending_flows::HeaderFigures;
@@ -31,7 +31,7 @@ pub fn remove_packing(
     let from = records_at(limits);
     let records = (figures.templates + figures.chance) as usize;
     // by a TTL of 0 every body of the label is expired
-    let test = label_test(Ttl::After(0), 0, label);
+    let test = label_test(Some(0), 0, label);
     let left = sweep_packing(words, bytes, figures.entries as usize, test);
     take_both(words, from, records, left, label, apart)
 }

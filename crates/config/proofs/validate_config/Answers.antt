@@ -2,8 +2,8 @@ use Rattle.config.proofs.Refusals.{has_template, refused_limits, areas_held, are
 use borrow.Author.Rules.{rules}
 use Rattle.config.proofs.validate_config.Goals as goal
 
-pub returns-in_default : goal.returns-in_default
-returns-in_default c = search (refused_limits, rules)
+pub returns-in_err-validate_limits : goal.returns-in_err-validate_limits
+returns-in_err-validate_limits c = search (refused_limits, rules)
 
 pub areas_hold-requires : goal.areas_hold-requires
 areas_hold-requires c = search (has_template, rules)
