@@ -34,11 +34,12 @@ module _ {w : List ℕ} {key from records p left : ℕ} (inv : KeySought w key f
     unfolding record_of
     record_found e = sym (inv.same ∙ rw (records_first w p left some r is, eq-eqb key r.key e))
 
-    pub record_further : (key ≡ r.key → ⊥) → KeySought w key from records (p + record_words) (left - 1)
+    pub record_further : {p' left' : ℕ} → (key ≡ r.key → ⊥) → p' ≡ p + record_words → left' ≡ left - 1 →
+        KeySought w key from records p' left'
     unfolding record_of
-    record_further h = record {
-      within = omega (arith, inv.within);
-      same = inv.same ∙ rw (records_first w p left some r is, ne_eqb key r.key h);
+    record_further h place count = record {
+      within = omega (arith, inv.within, place, count);
+      same = inv.same ∙ rw (place, count, records_first w p left some r is, ne_eqb key r.key h);
     }
 
 -- What is read off the record that was found.
@@ -142,9 +143,9 @@ module _ {w : List ℕ} {ttl : Option ℕ} {clock label entries bodies bytes lef
     unfolding live_lens
     next_lens = rw (entries_first w p left some e is, test)
 
-    pub live_summed : v ≡ true → {bytes' : ℕ} → bytes' ≡ (bytes + e.len) % 2 ^ 64 →
+    live_step : v ≡ true → {bytes' : ℕ} → bytes' ≡ (bytes + e.len) % 2 ^ 64 →
         LiveSummed w ttl clock label entries (bodies + 1) bytes' (left - 1) (p + entry_words)
-    live_summed h adds =
+    live_step h adds =
         let n = rw h at next in
         let l = rw h at next_lens in
         record {
@@ -156,8 +157,13 @@ module _ {w : List ℕ} {ttl : Option ℕ} {clock label entries bodies bytes lef
           lens_rest = omega (arith, inv.lens_rest);
         }
 
-    pub not_summed : v ≡ false → LiveSummed w ttl clock label entries bodies bytes (left - 1) (p + entry_words)
-    not_summed h =
+    pub live_summed : v ≡ true → {bytes' p' left' : ℕ} → bytes' ≡ (bytes + e.len) % 2 ^ 64 →
+        p' ≡ p + entry_words → left' ≡ left - 1 →
+        LiveSummed w ttl clock label entries (bodies + 1) bytes' left' p'
+    live_summed h adds place count = rw (place, count) (live_step h adds)
+
+    other_step : v ≡ false → LiveSummed w ttl clock label entries bodies bytes (left - 1) (p + entry_words)
+    other_step h =
         let n = rw h at next in
         let l = rw h at next_lens in
         record {
@@ -168,6 +174,10 @@ module _ {w : List ℕ} {ttl : Option ℕ} {clock label entries bodies bytes lef
           wrapped = inv.wrapped;
           lens_rest = omega (arith, inv.lens_rest);
         }
+
+    pub not_summed : v ≡ false → {p' left' : ℕ} → p' ≡ p + entry_words → left' ≡ left - 1 →
+        LiveSummed w ttl clock label entries bodies bytes left' p'
+    not_summed h place count = rw (place, count) (other_step h)
 
 pub bodies_told : {f : LiveFigures} (ttl : Option ℕ) (clock label : ℕ) (es : List Entry) →
     f ≡ live_figures ttl clock label es → f.bodies ≡ live_count ttl clock label es

@@ -8,48 +8,37 @@ ghost use Rattle.table.specs.Reads.{record_of, count_in, label_of, label_or_none
 ghost use Rattle.table.specs.Reads.{live_figures};
 
 use super::layout::{entry_at, record_at};
-use super::{Entry, LABELS, LiveFigures};
+use super::{Entry, LABELS, LiveFigures, TemplateRecord};
 use config::{ENTRY_WORDS, HEADER_WORDS, RECORD_WORDS, is_expired};
-use std::num::wrapping_add_u64;
 
 // The record with this key.
 pub fn record_of(words: &[u64], from: usize, records: usize, key: u64) -> Option<TemplateRecord>
     requires { from + record_words * records ≤ length words.now }
     ensures { result ≡ record_of key (records_from words.now from records) }
 {
-    let mut left = records;
-    let mut p = from;
-    while left > 0 {
-        let template = record_at(words, p);
+    for i in 0..records {
+        let template = record_at(words, from + RECORD_WORDS * i);
         if key == template.key {
             return Some(template);
         }
-        left -= 1;
-        p += RECORD_WORDS;
     }
     None
 }
 
 // The label of the record with this key.
+#[tactic(auto, using(crate::proofs::Lookups::label_told, crate::proofs::Lookups::no_label_told))]
 fn label_of(words: &[u64], from: usize, records: usize, key: u64) -> Option<u64>
     requires { from + record_words * records ≤ length words.now }
     ensures { result ≡ label_of key (records_from words.now from records) }
 {
-    let found = record_of(words, from, records, key);
-    match found {
-        Some(template) => Some(template.label),
-        None => None,
-    }
+    record_of(words, from, records, key).map(|template| template.label)
 }
 
 // How many bodies the record that was found counts; 0 where there is none.
 pub fn count_in(found: Option<TemplateRecord>) -> u64
     ensures { result ≡ count_in found }
 {
-    match found {
-        Some(template) => template.count,
-        None => 0,
-    }
+    found.map_or(0, |template| template.count)
 }
 
 // How many bodies the record with this key counts; 0 where none has the key.
@@ -65,10 +54,7 @@ pub fn label_for(words: &[u64], from: usize, records: usize, key: u64) -> u64
     requires { from + record_words * records ≤ length words.now }
     ensures { result ≡ label_or_none (label_of key (records_from words.now from records)) }
 {
-    let Some(label) = label_of(words, from, records, key) else {
-        return LABELS as u64;
-    };
-    label
+    label_of(words, from, records, key).unwrap_or(LABELS as u64)
 }
 
 // The first record's label; where there is none, what is no label.
@@ -86,29 +72,28 @@ pub fn first_label(words: &[u64], from: usize, records: usize) -> u64
 fn is_live(entry: Entry, label: u64, ttl: Option<u64>, clock: u64) -> bool
     ensures { result ≡ is_live ttl clock label entry }
 {
-    if label != entry.label {
-        return false;
-    }
-    !is_expired(ttl, clock, entry.clock)
+    label == entry.label && !is_expired(ttl, clock, entry.clock)
 }
 
 // How many of the entries have this label and are not expired, and their lengths together.
-pub fn live_figures(words: &[u64], entries: usize, label: u64, ttl: Option<u64>, clock: u64) -> LiveFigures
+pub fn live_figures(
+    words: &[u64],
+    entries: usize,
+    label: u64,
+    ttl: Option<u64>,
+    clock: u64,
+) -> LiveFigures
     requires { header_words + entry_words * entries ≤ length words.now }
     ensures { result ≡ live_figures ttl clock label (entries_from words.now entries_at entries) }
 {
     let mut bodies: usize = 0;
     let mut bytes: u64 = 0;
-    let mut left = entries;
-    let mut p = HEADER_WORDS;
-    while left > 0 {
-        let entry = entry_at(words, p);
+    for i in 0..entries {
+        let entry = entry_at(words, HEADER_WORDS + ENTRY_WORDS * i);
         if is_live(entry, label, ttl, clock) {
             bodies += 1;
-            bytes = wrapping_add_u64(bytes, entry.len);
+            bytes = bytes.wrapping_add(entry.len);
         }
-        left -= 1;
-        p += ENTRY_WORDS;
     }
     LiveFigures { bodies, bytes }
 }

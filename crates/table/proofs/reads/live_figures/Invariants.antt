@@ -1,8 +1,8 @@
+use Rattle.std.proofs.Common.{◌+◌, ◌-◌, ◌*◌}
+use Rattle.config.specs.Limits.{header_words, entry_words}
 use Rattle.table.proofs.Lookups.{LiveSummed}
 use Rattle.table.proofs.reads.live_figures.Given as goal
 
-abbrev pub invariant-loop-left : goal.invariant-loop-left
-invariant-loop-left l = LiveSummed l.words l.ttl l.clock l.label l.entries l.bodies l.bytes l.left l.p
-
-abbrev pub decreases-loop-left : goal.decreases-loop-left
-decreases-loop-left l = l.left
+abbrev pub invariant-loop-i : goal.invariant-loop-i
+invariant-loop-i l = LiveSummed l.words l.ttl l.clock l.label l.entries l.bodies l.bytes
+    (l.entries - l.i) (header_words + entry_words * l.i)
