@@ -201,7 +201,7 @@ module _ (w b : List ℕ) (k : ℕ) {x : Result LabelSeen Damaged} {s : LabelSee
           ∙ ap length (found.holds e h)
 
 pub place_damaged : (w b : List ℕ) (k : ℕ) {x : Result LabelSeen Damaged} → x ≡ examined w (length b) (Sought.HandedOut k) →
-    x ≡ (Err Damaged) → PlacesHandedOut (areas_of w b) k (Place.Refused Refusal.Damaged) (areas_of w b)
+    x ≡ Err (record {}) → PlacesHandedOut (areas_of w b) k (Place.Refused Refusal.Damaged) (areas_of w b)
 place_damaged w b k tested e = record {
   answer = seen_damaged w b (Sought.HandedOut k) tested (place_handed_out k) e;
   within = λ p g. other p g;

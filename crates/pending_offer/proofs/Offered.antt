@@ -73,7 +73,7 @@ not_too_long w l len is h = omega (arith, ap (λ (k : PendingFlowsConfig). k.max
 -- the call, behind the test of 28 in which the id's live bodies are sought
 module _ (w b : List ℕ) (i : ℕ) (body : List ℕ) (clock : ℕ) {x : Result LabelSeen Damaged}
     (tested : x ≡ examined w (length b) (Sought.Live i clock)) where
-  pub offer_damaged : x ≡ (Err Damaged) → Offers i body clock (areas_of w b) (Offer.Refused Refusal.Damaged)
+  pub offer_damaged : x ≡ Err (record {}) → Offers i body clock (areas_of w b) (Offer.Refused Refusal.Damaged)
       (areas_of w b)
   offer_damaged e = record {
     performs = damaged_performs w b (is_damaged (well_formed w (length b)) _ tested e) (offered i (body_of body clock))

@@ -42,7 +42,7 @@ asks e = record { answer = e; unchanged = refl }
 
 -- The areas were examined: x is what was answered.
 module _ (w b : List ℕ) (sought : Sought) {x : Result LabelSeen Damaged} (tested : x ≡ examined w (length b) sought) where
-  pub seen_damaged : (question : Cache → Answer) → x ≡ (Err Damaged) →
+  pub seen_damaged : (question : Cache → Answer) → x ≡ Err (record {}) →
       number 28 ≡ asked question (view (areas_of w b))
   seen_damaged question e = damaged question w b (is_damaged (well_formed w (length b)) _ tested e) refl
 

@@ -1,7 +1,7 @@
 -- The label of an id among records whose keys and labels differ: it belongs to the record with that key alone.
 -- Assumes nothing.
-use Rattle.std.proofs.Common.{Option, Some, None}
-use Rattle.std.proofs.Common.{◌≡◌, ℕ, ◌<◌, Bool, true, false, cond, eqb, ◌≢◌, List, [], ◌∷◌, sym, refl, ap, ◌∙◌, arith, eq-eqb, ne_eqb, eqb-true}
+use Rattle.std.proofs.Common.{Some}
+use Rattle.std.proofs.Common.{◌≡◌, ℕ, ◌<◌, Bool, true, false, cond, eqb, ◌≢◌, List, [], ◌∷◌, sym, refl, ◌∙◌, arith, eq-eqb, ne_eqb, eqb-true}
 use Rattle.config.proofs.Lists.{All, all_map, all_both}
 use Rattle.table.specs.declared.TemplateRecord.{TemplateRecord}
 use Rattle.table.specs.Reads.{label_of, label_or_none}
@@ -9,13 +9,6 @@ use Rattle.table.proofs.Facts.{Differ}
 
 abbrev pub label_for : ℕ → List TemplateRecord → ℕ
 label_for i rs = label_or_none (label_of i rs)
-
-module _ {x y : Option ℕ} (found : x ≡ y) where
-  pub no_label : x ≡ None → 1024 ≡ label_or_none y
-  no_label e = ap label_or_none (sym e ∙ found)
-
-  pub the_label : {k : ℕ} → x ≡ Some k → k ≡ label_or_none y
-  the_label e = ap label_or_none (sym e ∙ found)
 
 module _ (i : ℕ) where
   -- what holds of each record's key and label holds of the id and its label

@@ -10,7 +10,7 @@ use Rattle.table_watch.specs.Watch.{judged}
 
 -- A verdict that is not good shows nothing; one that is good shows what was seen.
 module _ {legal : Bool} where
-  pub damaged : false ≡ legal → (seen : LabelSeen) → (Err Damaged) ≡ judged legal seen
+  pub damaged : false ≡ legal → (seen : LabelSeen) → Err (record {}) ≡ judged legal seen
   unfolding judged
   damaged e seen = rw (← e)
 
@@ -20,11 +20,11 @@ module _ {legal : Bool} where
 
 -- What a verdict shows says what it was.
 module _ (legal : Bool) (seen : LabelSeen) {r : Result LabelSeen Damaged} (is : r ≡ judged legal seen) where
-  pub is_damaged : r ≡ (Err Damaged) → false ≡ legal
+  pub is_damaged : r ≡ Err (record {}) → false ≡ legal
   unfolding judged
   is_damaged e = by_verdict legal (sym e ∙ is)
     where
-      by_verdict : (t : Bool) → (Err Damaged) ≡ cond t (Ok seen) (Err Damaged) → false ≡ t
+      by_verdict : (t : Bool) → ◌≡◌ {A = Result LabelSeen Damaged} (Err (record {})) (cond t (Ok seen) (Err (record {}))) → false ≡ t
       by_verdict true h = let z : ◌≡◌ {A = ℕ} 0 1 = cc in absurd (omega arith)
       by_verdict false h = refl
 
@@ -33,7 +33,7 @@ module _ (legal : Bool) (seen : LabelSeen) {r : Result LabelSeen Damaged} (is : 
     unfolding judged
     both = by_verdict legal (sym e ∙ is)
       where
-        by_verdict : (t : Bool) → Ok s ≡ cond t (Ok seen) (Err Damaged) →
+        by_verdict : (t : Bool) → ◌≡◌ {A = Result LabelSeen Damaged} (Ok s) (cond t (Ok seen) (Err (record {}))) →
             (true ≡ t) × (s ≡ seen)
         by_verdict true h = (refl, cc)
         by_verdict false h = let z : ◌≡◌ {A = ℕ} 0 1 = cc in absurd (omega arith)

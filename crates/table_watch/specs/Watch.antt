@@ -54,7 +54,7 @@ seen_by v es = record { live = count_watched v es; found = nth_watched v v.nth e
 
 -- a verdict, with what was seen where it is good
 unfoldable pub judged : Bool → LabelSeen → Result LabelSeen Damaged
-judged legal seen = cond legal (Ok seen) (Err Damaged)
+judged legal seen = cond legal (Ok seen) (Err (record {}))
 
 -- As the loop goes: an entry is passed with `left` left, and what was passed is read at the end.
 unfoldable pub kept_of : ℕ → ℕ → ℕ → ℕ → ℕ

@@ -1,4 +1,4 @@
-use Rattle.std.proofs.Common.{rules, arith}
+use Rattle.std.proofs.Common.{rules, refl, arith}
 use Rattle.table.proofs.Lookups.{none_summed, all_summed, live_summed, not_summed}
 use Rattle.table.proofs.reads.live_figures.Goals as goal
 use Rattle.table.proofs.reads.live_figures.Goals.{else-is_live, then-is_live}
