@@ -13,8 +13,9 @@ ghost use Rattle.table_check.specs.Examined.{table_examined, examined};
 
 use config::{HEADER_WORDS, PendingFlowsConfig, RECORD_WORDS, validate_config};
 use table::{
-    CHANCE_COUNT, ENTRY_COUNT, FEW_LABELS, HELD_COUNT, LABELS, TOTAL, TTL_SET, first_label,
-    limits_at, records_at};
+    CHANCE_COUNT, Damaged, ENTRY_COUNT, FEW_LABELS, HELD_COUNT, LABELS, TOTAL, TTL_SET,
+    first_label, limits_at, records_at,
+};
 use table_entry_test::entries_pass;
 use table_passes::{index_rises, labels_below, records_pass};
 use table_watch::{LabelSeen, Sought, watch_for};
@@ -60,7 +61,11 @@ fn test_table(
 }
 
 // Tests a table whose header is legal, and looks for what is sought.
-fn examine_table(words: &[u64], limits: PendingFlowsConfig, sought: Sought) -> Result<LabelSeen, Damaged>
+fn examine_table(
+    words: &[u64],
+    limits: PendingFlowsConfig,
+    sought: Sought,
+) -> Result<LabelSeen, Damaged>
     requires { HeaderLegal limits words.now }
     ensures { result ≡ table_examined words.now sought }
 {
@@ -116,8 +121,5 @@ pub fn examine(words: &[u64], bytes_len: usize, sought: Sought) -> Result<LabelS
 pub fn well_formed(words: &[u64], bytes_len: usize) -> bool
     ensures { result ≡ well_formed words.now bytes_len }
 {
-    let Ok(_) = examine(words, bytes_len, Sought::Nothing) else {
-        return false;
-    };
-    true
+    examine(words, bytes_len, Sought::Nothing).is_ok()
 }

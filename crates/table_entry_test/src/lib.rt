@@ -11,7 +11,7 @@ ghost use Rattle.table_watch.specs.Watch.{seen_by, judged};
 ghost use Rattle.table_entry_test.specs.EntriesPass.{entry_fits, one_less, entries_pass};
 
 use config::{ENTRY_WORDS, HEADER_WORDS, MAX_BYTES};
-use table::{Entry, entry_at};
+use table::{Damaged, Entry, entry_at};
 use table_watch::{LabelSeen, Passed, Watch, label_seen, pass_entry};
 
 // Whether a body is within the entry size, and begins at `end` or above, within the longest area. Bodies follow one

@@ -1,5 +1,5 @@
 -- What a verdict shows of what was seen. Assumes nothing.
-use Rattle.std.proofs.Common.{Result, Ok, Err}
+use Rattle.std.proofs.Common.{Result, Ok, Err, is_ok, ap}
 use Rattle.table.specs.declared.Damaged.{Damaged}
 use mathlib.Core.Path.{◌≡◌, refl, sym, ◌∙◌}
 use mathlib.Core.Bool.{Bool, true, false, cond}
@@ -27,6 +27,14 @@ module _ (legal : Bool) (seen : LabelSeen) {r : Result LabelSeen Damaged} (is : 
       by_verdict : (t : Bool) → ◌≡◌ {A = Result LabelSeen Damaged} (Err (record {})) (cond t (Ok seen) (Err (record {}))) → false ≡ t
       by_verdict true h = let z : ◌≡◌ {A = ℕ} 0 1 = cc in absurd (omega arith)
       by_verdict false h = refl
+
+  pub ok_is_legal : {v : Bool} → v ≡ is_ok r → v ≡ legal
+  unfolding judged
+  ok_is_legal e = e ∙ ap is_ok is ∙ by_verdict legal
+    where
+      by_verdict : (t : Bool) → is_ok (cond {A = Result LabelSeen Damaged} t (Ok seen) (Err (record {}))) ≡ t
+      by_verdict true = refl
+      by_verdict false = refl
 
   module _ {s : LabelSeen} (e : r ≡ Ok s) where
     both : (true ≡ legal) × (s ≡ seen)

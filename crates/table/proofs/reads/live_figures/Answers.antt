@@ -10,13 +10,13 @@ pub loop-i-preserved : goal.loop-i-preserved
 loop-i-preserved c =
     elim c.if-is_live.branch [
       | then-is_live v ↦
-        rw (v.bodies-is, v.bytes-is)
-            (live_summed c.loop-i.invariant _ _ (omega arith) c.entry_at-entry.ensures c.is_live.ensures v.if-is_live.true
-            refl (omega arith) (omega arith))
+          rw (v.bodies-is, v.bytes-is)
+          (live_summed c.loop-i.invariant _ _ (omega arith) c.entry_at-entry.ensures c.is_live.ensures v.if-is_live.true
+          refl (omega arith) (omega arith))
       | else-is_live v ↦
-        rw (v.bodies-is, v.bytes-is)
-            (not_summed c.loop-i.invariant _ _ (omega arith) c.entry_at-entry.ensures c.is_live.ensures v.if-is_live.false
-            (omega arith) (omega arith))
+          rw (v.bodies-is, v.bytes-is)
+          (not_summed c.loop-i.invariant _ _ (omega arith) c.entry_at-entry.ensures c.is_live.ensures v.if-is_live.false
+          (omega arith) (omega arith))
     ]
 
 pub returns : goal.returns
