@@ -59,10 +59,10 @@ module _ {w : List ℕ} {from records low left p : ℕ} (inv : IndexPassed w fro
       pub key_falls : key < low → false ≡ index_rises (records_from w from records) 0 (index_from w from records)
       key_falls h = rw (lt-leb low key h) at key_test
 
-      pub key_passed : KeysSmall w from records → low ≤ key →
-          IndexPassed w from records (key + 1) (left - 1) (p + record_words)
-      key_passed small h = record {
+      pub key_passed : KeysSmall w from records → low ≤ key → {left' p' : ℕ} → left' ≡ left - 1 →
+          p' ≡ p + record_words → IndexPassed w from records (key + 1) left' p'
+      key_passed small h count place = record {
         reached = omega arith;
         low_small = omega (arith, small position known);
-        test = rw (le-leb low key h) at key_test;
+        test = rw (count, place) (rw (le-leb low key h) at key_test);
       }

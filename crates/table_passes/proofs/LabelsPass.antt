@@ -32,5 +32,9 @@ module _ {w : List ℕ} {from records most left p : ℕ} (inv : LabelsPassed w f
     pub label_not_below : most ≤ r.label → false ≡ labels_below most (records_from w from records)
     label_not_below h = rw (le-ltb r.label most h) at next_test
 
-    pub label_passed : r.label < most → LabelsPassed w from records most (left - 1) (p + record_words)
-    label_passed h = record { reached = omega arith; test = rw (lt-ltb r.label most h) at next_test }
+    pub label_passed : r.label < most → {left' p' : ℕ} → left' ≡ left - 1 → p' ≡ p + record_words →
+        LabelsPassed w from records most left' p'
+    label_passed h count place = record {
+      reached = omega arith;
+      test = rw (count, place) (rw (lt-ltb r.label most h) at next_test);
+    }

@@ -4,35 +4,15 @@ use mathlib.Core.Bool.{Bool, true, false, ◌&&◌, false≢true}
 use mathlib.Core.List.{List}
 use Prim.Native.Nat.{ℕ, ◌+◌, ◌*◌, ◌-◌, ◌^◌, ◌≤◌, ◌<◌}
 use native.Mathlib.Omega.{arith}
-use lib.Dec.{eqb, leb, ltb}
+use lib.Dec.{eqb, ltb}
 use lib.ListN.{length, get_or, set, length-set}
-use borrow.Author.Tests.{leb-true, ltb-true, eqb-true, lt-ltb, le-ltb, eq-eqb, ne_eqb}
+use borrow.Author.Tests.{leb-true, ltb-true, eqb-true, lt-ltb, le-ltb}
 use Rattle.config.specs.Limits.{record_words}
 use Rattle.config.proofs.Tests.{and_left, and_right}
 use Rattle.table.specs.declared.TemplateRecord.{TemplateRecord}
 use Rattle.table.specs.Table.{record_at, records_from}
 use Rattle.table_passes.specs.Passes.{record_fresh, records_pass, allowed_by, Allowed}
 use Rattle.table.proofs.Words.{records_first, records_none}
-
--- a record by itself, by the test that decides
-module _ (cap was : ℕ) (r : TemplateRecord) where
-  pub large_key : 65536 ≤ r.key → false ≡ record_fresh cap was r
-  unfolding record_fresh
-  large_key h = simp (le-ltb _ _ h)
-
-  module _ (small-key : r.key < 65536) where
-    pub label_taken : (was ≡ 0 → ⊥) → false ≡ record_fresh cap was r
-    unfolding record_fresh
-    label_taken h = simp (lt-ltb _ _ small-key, ne_eqb _ _ h)
-
-    module _ (label_free : was ≡ 0) where
-      pub no_bodies : r.count ≡ 0 → false ≡ record_fresh cap was r
-      unfolding record_fresh
-      no_bodies h = simp (lt-ltb _ _ small-key, eq-eqb _ _ label_free, le-ltb 0 r.count (omega arith))
-
-      pub cap_decides : (r.count ≡ 0 → ⊥) → leb r.count cap ≡ record_fresh cap was r
-      unfolding record_fresh
-      cap_decides h = simp (lt-ltb _ _ small-key, eq-eqb _ _ label_free, lt-ltb 0 r.count (omega arith))
 
 pub record Fresh (cap was : ℕ) (r : TemplateRecord) : Type 0 where
   pub key_small : r.key < 65536
@@ -107,15 +87,15 @@ module _ (w : List ℕ) (from records cap entries : ℕ) where
           fresh : Fresh cap (get_or allow r.label 0) r
           fresh = fresh_says cap (get_or allow r.label 0) r (sym told ∙ holds)
 
-          pub record_passed : RecordsPassed w from records cap entries allow₀ (set allow r.label r.count)
-              (sum + r.count) (left - 1) (p + record_words)
+          pub record_passed : {left' p' : ℕ} → left' ≡ left - 1 → p' ≡ p + record_words →
+              RecordsPassed w from records cap entries allow₀ (set allow r.label r.count) (sum + r.count) left' p'
           unfolding allowed_by
-          record_passed = let f = fresh in record {
+          record_passed count place = let f = fresh in record {
             reached = omega arith;
             same_long = length-set allow r.label r.count ∙ inv.same_long;
             sum_small = omega arith;
-            test = rw (lt-ltb r.label (length allow) small-label, ← told, holds) at next_test;
-            filled = rw (records_first w p left more r is) at inv.filled;
+            test = rw (count, place) (rw (lt-ltb r.label (length allow) small-label, ← told, holds) at next_test);
+            filled = rw (count, place) (rw (records_first w p left more r is) at inv.filled);
           }
 
           pub count_fits : r.count < 2 ^ 32

@@ -18,33 +18,21 @@ pub fn labels_below(words: &[u64], from: usize, records: usize, most: u64) -> bo
     requires { from + record_words * records ≤ length words.now }
     ensures { result ≡ labels_below most (records_from words.now from records) }
 {
-    let mut records_left = records;
-    let mut p = from;
-    while records_left > 0 {
-        let template = record_at(words, p);
+    for i in 0..records {
+        let template = record_at(words, from + RECORD_WORDS * i);
         if most <= template.label {
             return false;
         }
-        records_left -= 1;
-        p += RECORD_WORDS;
     }
     true
 }
 
 // Whether a record's key and count are in range and its label, which was allowed `was` entries before, is new.
+#[tactic(auto, unfolding(crate::specs::Passes::record_fresh))]
 fn record_fresh(template: TemplateRecord, was: u32, cap: u64) -> bool
     ensures { result ≡ record_fresh cap was template }
 {
-    if KEYS <= template.key {
-        return false;
-    }
-    if was != 0 {
-        return false;
-    }
-    if template.count == 0 {
-        return false;
-    }
-    template.count <= cap
+    template.key < KEYS && was == 0 && 0 < template.count && template.count <= cap
 }
 
 // The pass over the records: each label is allowed as many entries as its record counts.
@@ -61,10 +49,8 @@ pub fn records_pass(
         allow.new result }
 {
     let mut sum: u64 = 0;
-    let mut records_left = records;
-    let mut p = from;
-    while records_left > 0 {
-        let template = record_at(words, p);
+    for i in 0..records {
+        let template = record_at(words, from + RECORD_WORDS * i);
         if (allow.len() as u64) <= template.label {
             return false;
         }
@@ -74,8 +60,6 @@ pub fn records_pass(
         }
         allow[label] = template.count as u32;
         sum += template.count;
-        records_left -= 1;
-        p += RECORD_WORDS;
     }
     sum == entries
 }
@@ -87,10 +71,8 @@ pub fn index_rises(words: &[u64], from: usize, records: usize) -> bool
         (index_from words.now from records) }
 {
     let mut low: u64 = 0;
-    let mut keys_left = records;
-    let mut p = from;
-    while keys_left > 0 {
-        let position = words[p + INDEX];
+    for i in 0..records {
+        let position = words[from + RECORD_WORDS * i + INDEX];
         if (records as u64) <= position {
             return false;
         }
@@ -99,8 +81,6 @@ pub fn index_rises(words: &[u64], from: usize, records: usize) -> bool
             return false;
         }
         low = key + 1;
-        keys_left -= 1;
-        p += RECORD_WORDS;
     }
     true
 }

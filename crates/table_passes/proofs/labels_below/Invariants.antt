@@ -1,8 +1,7 @@
+use Rattle.std.proofs.Common.{◌+◌, ◌-◌, ◌*◌}
+use Rattle.config.specs.Limits.{record_words}
 use Rattle.table_passes.proofs.LabelsPass.{LabelsPassed}
 use Rattle.table_passes.proofs.labels_below.Given as goal
 
-abbrev pub invariant-loop-records_left : goal.invariant-loop-records_left
-invariant-loop-records_left l = LabelsPassed l.words l.from l.records l.most l.records_left l.p
-
-abbrev pub decreases-loop-records_left : goal.decreases-loop-records_left
-decreases-loop-records_left l = l.records_left
+abbrev pub invariant-loop-i : goal.invariant-loop-i
+invariant-loop-i l = LabelsPassed l.words l.from l.records l.most (l.records - l.i) (l.from + record_words * l.i)
