@@ -17,21 +17,6 @@ use Rattle.table_entry_test.specs.EntriesPass.{entry_fits, one_less, entries_pas
 use Rattle.table.proofs.Words.{entries_first, entries_none}
 use Rattle.table.proofs.Labels.{adds_within}
 
--- an entry by itself, by the test that decides
-module _ (size end : ℕ) (e : Entry) where
-  pub too_long : size < e.len → false ≡ entry_fits size end e
-  unfolding entry_fits
-  too_long h = simp (lt-leb _ _ h)
-
-  module _ (short : e.len ≤ size) where
-    pub overlaps : e.place < end → false ≡ entry_fits size end e
-    unfolding entry_fits
-    overlaps h = simp (le-leb _ _ short, lt-leb _ _ h)
-
-    pub place_decides : end ≤ e.place → leb e.place 67108864 ≡ entry_fits size end e
-    unfolding entry_fits
-    place_decides above = simp (le-leb _ _ short, le-leb _ _ above)
-
 pub record Fits (size end : ℕ) (e : Entry) : Type 0 where
   pub short : e.len ≤ size
   pub above : end ≤ e.place
@@ -49,16 +34,9 @@ fits_says size end e t =
 
 -- an allowance, by the test that decides
 module _ (allowed : ℕ) where
-  pub one_less_of : (allowed ≡ 0 → ⊥) → one_less allowed ≡ allowed - 1
+  one_less_of : (allowed ≡ 0 → ⊥) → one_less allowed ≡ allowed - 1
   unfolding one_less
   one_less_of h = simp (ne_eqb allowed 0 h)
-
-  pub some_allowed : 0 < allowed → allowed - 1 ≡ one_less allowed
-  some_allowed h = sym (one_less_of (λ e. omega arith))
-
-  pub none_allowed : allowed ≤ 0 → 4294967295 ≡ one_less allowed
-  unfolding one_less
-  none_allowed h = simp (eq-eqb allowed 0 (omega arith))
 
 -- `left` entries are left, from word p on; those passed end at `end`, and their held lengths sum to `held`
 pub record EntriesPassed (w : List ℕ) (entries size most out total : ℕ) (allow₀ allow : List ℕ)
@@ -153,13 +131,14 @@ module _ (w : List ℕ) (entries size most out total : ℕ) where
               )
               at next_test
 
-          pub entry_passed : (add less : ℕ) → add ≡ held_len out e → less ≡ one_less (get_or allow e.label 0) →
+          pub entry_passed : {add less left' p' : ℕ} → add ≡ held_len out e →
+              less ≡ one_less (get_or allow e.label 0) → left' ≡ left - 1 → p' ≡ p + entry_words →
               EntriesPassed w entries size most out total allow₀ (set allow e.label less) (e.place + e.len)
-              (held + add) (left - 1) (p + entry_words)
-          entry_passed add less added taken = let f = fits_there in record {
+              (held + add) left' p'
+          entry_passed added taken count place = let f = fits_there in record {
             reached = omega arith;
             same_long = length-set allow e.label _ ∙ inv.same_long;
             no_more = omega (arith, adds_within out e);
             within = omega arith;
-            test = rw (added, taken, one_less_of (get_or allow e.label 0) some_left) later_test;
+            test = rw (count, place, added, taken, one_less_of (get_or allow e.label 0) some_left) later_test;
           }

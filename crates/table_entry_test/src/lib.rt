@@ -16,16 +16,11 @@ use table_watch::{LabelSeen, Passed, Watch, label_seen, pass_entry};
 
 // Whether a body is within the entry size, and begins at `end` or above, within the longest area. Bodies follow one
 // another, so where they end is tested of the last one alone.
+#[tactic(auto, unfolding(crate::specs::EntriesPass::entry_fits))]
 fn entry_fits(entry: Entry, max_size: u64, end: u64) -> bool
     ensures { result ≡ entry_fits max_size end entry }
 {
-    if max_size < entry.len {
-        return false;
-    }
-    if entry.place < end {
-        return false;
-    }
-    entry.place <= (MAX_BYTES as u64)
+    entry.len <= max_size && end <= entry.place && entry.place <= MAX_BYTES as u64
 }
 
 // What an entry adds to the total: nothing where it is handed out.
@@ -37,10 +32,11 @@ fn held_len(entry: Entry, out: u64) -> u64
 
 // One less than what a label is allowed; below 0 it wraps, so that it can be stored before it is tested, which compiles
 // to one instruction on the word.
+#[tactic(auto, unfolding(crate::specs::EntriesPass::one_less))]
 fn one_less(allowed: u32) -> u32
     ensures { result ≡ one_less allowed }
 {
-    if 0 < allowed { allowed - 1 } else { u32::MAX }
+    allowed.wrapping_sub(1)
 }
 
 // The pass over the entries: each takes one of its label's allowance, bodies follow one another, and the last one ends
@@ -64,9 +60,8 @@ pub fn entries_pass(
     let mut end: u64 = 0;
     let mut held: u64 = 0;
     let mut passed = Passed { live: 0, left: 0 };
-    let mut entries_left = entries;
-    let mut p = HEADER_WORDS;
-    while entries_left > 0 {
+    for i in 0..entries {
+        let p = HEADER_WORDS + ENTRY_WORDS * i;
         let entry = entry_at(words, p);
         if (allow.len() as u64) <= entry.label {
             return Err(Damaged);
@@ -82,9 +77,7 @@ pub fn entries_pass(
         }
         end = entry.place + entry.len;
         held += held_len(entry, out);
-        passed = pass_entry(words, p, entry, entries_left, passed, watch);
-        entries_left -= 1;
-        p += ENTRY_WORDS;
+        passed = pass_entry(words, p, entry, entries - i, passed, watch);
     }
     if max_total < end {
         return Err(Damaged);

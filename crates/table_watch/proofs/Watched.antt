@@ -220,10 +220,10 @@ module _ (w : List ℕ) (watch : Watch) (entries : ℕ) where
         ahead = λ k. sym (rw (← test) at (next (watch.nth - passed.live))) ∙ inv.ahead k;
       }
 
-      pub entry_watched : {c : Passed} → c ≡ passed_more watch e left passed →
-          Watched w watch entries c (left - 1) (p + entry_words)
+      pub entry_watched : {c : Passed} → c ≡ passed_more watch e left passed → {left' p' : ℕ} → left' ≡ left - 1 →
+          p' ≡ p + entry_words → Watched w watch entries c left' p'
       unfolding passed_more
-      entry_watched h = rw h (one_more (is_watched watch e) refl)
+      entry_watched h count place = rw (h, count, place) (one_more (is_watched watch e) refl)
 
     module _ (none : left ≤ 0) where
       all_counted : passed.live ≡ count_watched watch all

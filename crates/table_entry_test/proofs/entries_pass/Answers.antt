@@ -1,5 +1,4 @@
-use borrow.Author.Rules.{rules}
-use borrow.Author.Tests.{not-true, not-false}
+use Rattle.std.proofs.Common.{rules, arith}
 use Rattle.table_entry_test.proofs.EntriesPass.{no_entry_passed, large_label, none_left}
 use Rattle.table_entry_test.proofs.EntriesPass.{misplaced, end_fits, held_fits, entry_passed, ends_past}
 use Rattle.table_entry_test.proofs.EntriesPass.{total_wrong, total_right}
@@ -7,38 +6,59 @@ use Rattle.table_watch.proofs.Watched.{none_watched, entry_watched, all_watched}
 use Rattle.table_watch.proofs.Verdicts.{damaged, shown}
 use Rattle.table_entry_test.proofs.entries_pass.Goals as goal
 
-pub loop-entries_left-init : goal.loop-entries_left-init
-loop-entries_left-init c = (no_entry_passed _ _ _ _ _ _ _, none_watched _ _ _)
+pub loop-i-init : goal.loop-i-init
+loop-i-init c = search (no_entry_passed, none_watched, rules)
 
 pub returns-then-allow-entry : goal.returns-then-allow-entry
-returns-then-allow-entry c = search (damaged, large_label, rules)
+returns-then-allow-entry c = damaged
+    (large_label _ _ _ _ _ _ c.loop-i.invariant.passed _ (omega arith) c.entry_at-entry.ensures c.if-allow-entry.true) _
 
 pub returns-then-allowed-eq0 : goal.returns-then-allowed-eq0
-returns-then-allowed-eq0 c = search (damaged, none_left, rules)
+returns-then-allowed-eq0 c = damaged
+    (none_left _ _ _ _ _ _ c.loop-i.invariant.passed _ (omega arith) c.entry_at-entry.ensures c.if-allowed-eq0.true) _
 
 pub returns-then-not-entry_fits : goal.returns-then-not-entry_fits
-returns-then-not-entry_fits c = search (damaged, misplaced, not-true, rules)
+returns-then-not-entry_fits c = damaged
+    (misplaced _ _ _ _ _ _ c.loop-i.invariant.passed _ (omega arith) c.entry_at-entry.ensures c.if-allowed-eq0.false _
+    c.entry_fits.ensures c.if-not-entry_fits.true) _
 
 pub overflow_add-end : goal.overflow_add-end
-overflow_add-end c = record { fits = search (end_fits, not-false, rules) }
+overflow_add-end c = record {
+  fits = end_fits _ _ _ _ _ _ c.loop-i.invariant.passed _ (omega arith) c.entry_at-entry.ensures
+      c.if-allowed-eq0.false _ c.entry_fits.ensures c.if-not-entry_fits.false c.requires.max_size_bound;
+}
 
-pub loop-entries_left-preserved : goal.loop-entries_left-preserved
-loop-entries_left-preserved c = (search (entry_passed, not-false, rules), search (entry_watched, rules))
+pub loop-i-preserved : goal.loop-i-preserved
+loop-i-preserved c = record {
+  passed = entry_passed _ _ _ _ _ _ c.loop-i.invariant.passed _ (omega arith) c.entry_at-entry.ensures
+      c.if-allowed-eq0.false _ c.entry_fits.ensures c.if-not-entry_fits.false c.held_len-held.ensures
+      c.one_less.ensures (omega arith) (omega arith);
+  watched = entry_watched _ _ _ c.loop-i.invariant.watched _ (omega arith) c.entry_at-entry.ensures
+      c.pass_entry-passed.ensures (omega arith) (omega arith);
+}
 
 pub overflow_add-held : goal.overflow_add-held
-overflow_add-held c = record { fits = search (held_fits, not-false, rules) }
+overflow_add-held c = record {
+  fits = held_fits _ _ _ _ _ _ c.loop-i.invariant.passed _ (omega arith) c.entry_at-entry.ensures
+      c.if-allowed-eq0.false _ c.entry_fits.ensures c.if-not-entry_fits.false c.requires.max_size_bound
+      c.held_len-held.ensures;
+}
 
 pub pass_entry-passed-requires : goal.pass_entry-passed-requires
 pass_entry-passed-requires c = record {
-  entry_words_in_bounds = (search rules, search rules);
-  live_bound = search rules;
+  entry_words_in_bounds = (omega arith, c.entry_at-entry.ensures);
+  live_bound = omega arith;
 }
 
 pub returns-then-max_total-end : goal.returns-then-max_total-end
-returns-then-max_total-end c = search (damaged, ends_past, rules)
+returns-then-max_total-end c = damaged
+    (ends_past _ _ _ _ _ _ c.loop-i.invariant.passed (omega arith) c.if-max_total-end.true) _
 
 pub returns-then-held-total : goal.returns-then-held-total
-returns-then-held-total c = search (damaged, total_wrong, rules)
+returns-then-held-total c = damaged
+    (total_wrong _ _ _ _ _ _ c.loop-i.invariant.passed (omega arith) c.if-max_total-end.false c.if-held-total.true) _
 
 pub returns : goal.returns
-returns c = search (shown, total_right, all_watched, rules)
+returns c = shown
+    (total_right _ _ _ _ _ _ c.loop-i.invariant.passed (omega arith) c.if-max_total-end.false c.if-held-total.false)
+    (all_watched _ _ _ c.loop-i.invariant.watched (omega arith) c.label_seen.ensures)
