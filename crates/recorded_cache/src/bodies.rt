@@ -2,8 +2,6 @@
 //     (7 × k + (2 × (k / 256) + 1) × i) modulo 256
 ghost use Rattle.std.specs.Prelude.{◌≤◌};
 
-use std::num::wrapping_add_u8;
-
 // The first byte of the body of offer k.
 fn first_byte(k: u64) -> u8 {
     (k % 256 * 7 % 256) as u8
@@ -24,11 +22,9 @@ pub fn body_of(k: u64, len: usize) -> [u8; LONGEST]
     let mut body = [0u8; LONGEST];
     let step = rise(k);
     let mut byte = first_byte(k);
-    let mut i: usize = 0;
-    while i < len {
-        body[i] = byte;
-        byte = wrapping_add_u8(byte, step);
-        i += 1;
+    for place in body[..len].iter_mut() {
+        *place = byte;
+        byte = byte.wrapping_add(step);
     }
     body
 }
@@ -36,14 +32,12 @@ pub fn body_of(k: u64, len: usize) -> [u8; LONGEST]
 // Whether every byte is that of the body of offer k.
 pub fn same_bytes(body: &[u8], k: u64) -> bool {
     let step = rise(k);
-    let mut byte = first_byte(k);
-    let mut i: usize = 0;
-    while i < body.len() {
-        if body[i] != byte {
+    let mut expected = first_byte(k);
+    for byte in body {
+        if *byte != expected {
             return false;
         }
-        byte = wrapping_add_u8(byte, step);
-        i += 1;
+        expected = expected.wrapping_add(step);
     }
     true
 }

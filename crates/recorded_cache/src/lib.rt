@@ -8,5 +8,5 @@ mod held;
 mod rows;
 
 pub use calls::{Answered, run_call};
-pub use held::{Compared, KEPT, OFFERS, same_handed_out, same_templates};
-pub use rows::{Row, goes_on, read_row};
+pub use held::{KEPT, OFFERS, same_handed_out, same_templates};
+pub use rows::{Call, Row, goes_on, read_row};

@@ -14,7 +14,8 @@ struct Numbers {
 // A row up to its list.
 #[derive(Clone, Copy)]
 pub struct Row {
-    pub call: u64,
+    // none where no call has the row's number
+    pub call: Option<Call>,
     pub args: [u64; 8],
     // number, value, and six figures
     pub told: [u64; 8],
@@ -32,53 +33,81 @@ fn read_numbers(line: &[u8], at: usize, n: usize) -> Numbers
 {
     let mut values = [0u64; 8];
     let mut next = at;
-    let mut i: usize = 0;
-    while i < n {
+    for value in values[..n].iter_mut() {
         let read = next_number(line, next);
-        values[i] = read.value;
+        *value = read.value;
         next = read.next;
-        i += 1;
     }
     Numbers { values, next }
 }
 
-// How many arguments a call has.
-fn argument_count(call: u64) -> usize
+// A call of a list.
+#[derive(Clone, Copy, PartialEq, Eq)]
+pub enum Call {
+    Open,
+    Offer,
+    Drain,
+    PutBack,
+    Resize,
+    Clear,
+    WouldAccept,
+    Read,
+}
+
+// A number that no call has.
+#[derive(Clone, Copy)]
+pub struct NoCall;
+
+impl TryFrom<u64> for Call {
+    type Error = NoCall;
+
+    fn try_from(number: u64) -> Result<Call, NoCall> {
+        match number {
+            0 => Ok(Call::Open),
+            1 => Ok(Call::Offer),
+            2 => Ok(Call::Drain),
+            3 => Ok(Call::PutBack),
+            4 => Ok(Call::Resize),
+            5 => Ok(Call::Clear),
+            6 => Ok(Call::WouldAccept),
+            7 => Ok(Call::Read),
+            _ => Err(NoCall),
+        }
+    }
+}
+
+// How many arguments a call has; what is no call has none.
+fn argument_count(call: Option<Call>) -> usize
     ensures { result ≤ 8 }
 {
     match call {
-        0 => 8,
-        1 => 3,
-        2 => 2,
-        3 => 2,
-        4 => 6,
-        6 => 3,
-        7 => 1,
-        _ => 0,
+        Some(Call::Open) => 8,
+        Some(Call::Offer) => 3,
+        Some(Call::Drain | Call::PutBack) => 2,
+        Some(Call::Resize) => 6,
+        Some(Call::WouldAccept) => 3,
+        Some(Call::Read) => 1,
+        Some(Call::Clear) | None => 0,
     }
 }
 
 // Whether a line has a number at or after `at`.
 pub fn goes_on(line: &[u8], at: usize) -> bool {
-    if line.len() <= at {
-        return false;
-    }
-    first_digit(line, at) != line.len()
+    at < line.len() && first_digit(line, at) != line.len()
 }
 
 // Reads the row of a line.
 pub fn read_row(line: &[u8]) -> Row {
-    let call = next_number(line, 0);
-    let arguments = read_numbers(line, call.next, argument_count(call.value));
+    let number = next_number(line, 0);
+    let call = Call::try_from(number.value).ok();
+    let arguments = read_numbers(line, number.next, argument_count(call));
     let answer = read_numbers(line, arguments.next, 8);
     let whole = goes_on(line, answer.next);
     let listed = next_number(line, answer.next);
-    let args = arguments.values;
-    let told = answer.values;
     Row {
-        call: call.value,
-        args,
-        told,
+        call,
+        args: arguments.values,
+        told: answer.values,
         whole,
         listed: listed.value == 1,
         next: listed.next,

@@ -1,9 +1,9 @@
 // What a row has against the answer of its call and the areas after it.
-use pending_queries::{FiguresAnswer, take_figures};
+use pending_queries::{CacheFigures, take_figures};
 use recorded_cache::{Answered, Row, goes_on, same_handed_out, same_templates};
 
 // The part of a row that differs first.
-#[derive(Clone, Copy)]
+#[derive(Clone, Copy, PartialEq, Eq)]
 pub enum Verdict {
     Same,
     // the line ends before its list
@@ -16,25 +16,15 @@ pub enum Verdict {
 
 // Whether the figures are those of the row, which stand behind its number and its value.
 fn same_figures(words: &[u64], bytes: &[u8], told: [u64; 8]) -> bool {
-    let FiguresAnswer::At(figures) = take_figures(words, bytes) else {
-        return false;
+    let recorded = CacheFigures {
+        templates: told[2],
+        bodies: told[3],
+        bytes: told[4],
+        cached: told[5],
+        dropped: told[6],
+        handed: told[7],
     };
-    if figures.templates != told[2] {
-        return false;
-    }
-    if figures.bodies != told[3] {
-        return false;
-    }
-    if figures.bytes != told[4] {
-        return false;
-    }
-    if figures.cached != told[5] {
-        return false;
-    }
-    if figures.dropped != told[6] {
-        return false;
-    }
-    figures.handed == told[7]
+    take_figures(words, bytes).is_ok_and(|figures| figures == recorded)
 }
 
 // Whether the list from `at` on is what is held and handed out, and ends the line.
@@ -46,15 +36,11 @@ fn same_list(
     handed: usize,
     offered: &[u64],
 ) -> bool {
-    let held = same_templates(words, bytes, line, at, offered);
-    if !held.same {
+    let Some(next) = same_templates(words, bytes, line, at, offered) else {
         return false;
-    }
-    let all = same_handed_out(words, bytes, handed, line, held.next, offered);
-    if !all.same {
-        return false;
-    }
-    !goes_on(line, all.next)
+    };
+    same_handed_out(words, bytes, handed, line, next, offered)
+        .is_some_and(|end| !goes_on(line, end))
 }
 
 // What of a row differs from the answer and the areas after it.

@@ -2,26 +2,51 @@
 // what it gives), and the figures after it: templates, bodies, bytes, cached, dropped, handed out.
 #![tactic(auto)]
 
-use config::{PendingFlowsConfig, config_number};
-use pending_calls::{ClearAnswer, clear};
-use pending_drain::{DrainAnswer, drain};
+use config::PendingFlowsConfig;
+use pending_calls::clear;
+use pending_drain::drain;
 use pending_flows::open;
 use pending_handed_out::read_handed_out;
-use pending_offer::{OfferAnswer, OfferRefusal, cache};
-use pending_queries::{AcceptAnswer, FiguresAnswer, take_figures, would_accept};
-use pending_resize::{ResizeAnswer, resize};
-use pending_restore::{PutBackAnswer, PutBackRefusal, restore_replay_suffix};
+use pending_offer::cache;
+use pending_queries::{take_figures, would_accept};
+use pending_resize::resize;
+use pending_restore::restore_replay_suffix;
 
 // Prints a blank and a number.
 fn print_value(rt: &impl Print, n: u64) {
     let _ = print!(rt; " {n}");
 }
 
+// Prints a call's number: 0, or that of its refusal.
+fn print_number<E>(rt: &impl Print, answer: Result<(), E>)
+where
+    u32: From<E>,
+{
+    match answer {
+        Ok(()) => print_value(rt, 0),
+        Err(refusal) => print_value(rt, u32::from(refusal) as u64),
+    }
+}
+
+// Prints 0 and a count of bodies, or the number of the refusal.
+fn print_count<E>(rt: &impl Print, answer: Result<usize, E>)
+where
+    u32: From<E>,
+{
+    match answer {
+        Ok(count) => {
+            print_value(rt, 0);
+            print_value(rt, count as u64);
+        }
+        Err(refusal) => print_number(rt, Err(refusal)),
+    }
+}
+
 // Ends a line with the figures.
 fn end_line(rt: &impl Print, words: &[u64], bytes: &[u8]) {
     let _ = rt.print(" |");
     match take_figures(words, bytes) {
-        FiguresAnswer::At(figures) => {
+        Ok(figures) => {
             print_value(rt, figures.templates);
             print_value(rt, figures.bodies);
             print_value(rt, figures.bytes);
@@ -29,32 +54,9 @@ fn end_line(rt: &impl Print, words: &[u64], bytes: &[u8]) {
             print_value(rt, figures.dropped);
             print_value(rt, figures.handed);
         }
-        FiguresAnswer::Damaged => print_value(rt, 28),
+        Err(damaged) => print_number(rt, Err(damaged)),
     }
     let _ = rt.println("");
-}
-
-// The number of an offer's answer.
-fn offer_number(answer: OfferAnswer) -> u64 {
-    match answer {
-        OfferAnswer::Cached => 0,
-        OfferAnswer::Refused(refusal) => match refusal {
-            OfferRefusal::TooLong => 6,
-            OfferRefusal::TemplateFull => 20,
-            OfferRefusal::Damaged => 28,
-        },
-    }
-}
-
-// The number of a put-back's answer.
-fn put_back_number(answer: PutBackAnswer) -> u64 {
-    match answer {
-        PutBackAnswer::Done => 0,
-        PutBackAnswer::Refused(refusal) => match refusal {
-            PutBackRefusal::NoChance => 25,
-            PutBackRefusal::Damaged => 28,
-        },
-    }
 }
 
 // Opens a cache and prints its limits, but the TTL.
@@ -65,10 +67,7 @@ fn begin(rt: &impl Print, words: &mut [u64], bytes: &[u8], config: PendingFlowsC
     print_value(rt, config.max_entry_size_bytes as u64);
     print_value(rt, config.max_total_bytes as u64);
     let _ = rt.print(":");
-    match open(config, words, bytes) {
-        Ok(()) => print_value(rt, 0),
-        Err(refusal) => print_value(rt, config_number(refusal) as u64),
-    }
+    print_number(rt, open(config, words, bytes));
     end_line(rt, words, bytes);
 }
 
@@ -79,7 +78,7 @@ fn offer(rt: &impl Print, words: &mut [u64], bytes: &mut [u8], id: u16, body: &[
     print_value(rt, body.len() as u64);
     print_value(rt, clock);
     let _ = rt.print(":");
-    print_value(rt, offer_number(cache(words, bytes, id, body, clock)));
+    print_number(rt, cache(words, bytes, id, body, clock));
     end_line(rt, words, bytes);
 }
 
@@ -91,13 +90,13 @@ fn ask(rt: &impl Print, words: &[u64], bytes: &[u8], id: u16, len: usize, clock:
     print_value(rt, clock);
     let _ = rt.print(":");
     match would_accept(words, bytes, id, len, clock) {
-        AcceptAnswer::Yes => {
+        Ok(true) => {
             let _ = rt.print(" yes");
         }
-        AcceptAnswer::No => {
+        Ok(false) => {
             let _ = rt.print(" no");
         }
-        AcceptAnswer::Damaged => print_value(rt, 28),
+        Err(damaged) => print_number(rt, Err(damaged)),
     }
     end_line(rt, words, bytes);
 }
@@ -108,28 +107,16 @@ fn take(rt: &impl Print, words: &mut [u64], bytes: &[u8], id: u16, clock: u64) {
     print_value(rt, id as u64);
     print_value(rt, clock);
     let _ = rt.print(":");
-    match drain(words, bytes, id, clock) {
-        DrainAnswer::HandedOut(n) => {
-            print_value(rt, 0);
-            print_value(rt, n as u64);
-        }
-        DrainAnswer::Damaged => print_value(rt, 28),
-    }
+    print_count(rt, drain(words, bytes, id, clock));
     end_line(rt, words, bytes);
-}
-
-// A byte as a number.
-fn wide(byte: u8) -> u64 {
-    byte as u64
 }
 
 // Prints a body's length, its first byte and its last.
 fn print_ends(rt: &impl Print, body: &[u8]) {
-    let len = body.len();
-    print_value(rt, len as u64);
-    if 0 < len {
-        print_value(rt, wide(body[0]));
-        print_value(rt, wide(body[len - 1]));
+    print_value(rt, body.len() as u64);
+    if let (Some(first), Some(last)) = (body.first(), body.last()) {
+        print_value(rt, u64::from(*first));
+        print_value(rt, u64::from(*last));
     }
 }
 
@@ -148,10 +135,7 @@ fn put_back(rt: &impl Print, words: &mut [u64], bytes: &[u8], id: u16, n: usize)
     print_value(rt, id as u64);
     print_value(rt, n as u64);
     let _ = rt.print(":");
-    print_value(
-        rt,
-        put_back_number(restore_replay_suffix(words, bytes, id, n)),
-    );
+    print_number(rt, restore_replay_suffix(words, bytes, id, n));
     end_line(rt, words, bytes);
 }
 
@@ -163,24 +147,14 @@ fn change_limits(rt: &impl Print, words: &mut [u64], bytes: &mut [u8], config: P
     print_value(rt, config.max_entry_size_bytes as u64);
     print_value(rt, config.max_total_bytes as u64);
     let _ = rt.print(":");
-    match resize(words, bytes, config) {
-        ResizeAnswer::Dropped(n) => {
-            print_value(rt, 0);
-            print_value(rt, n as u64);
-        }
-        ResizeAnswer::Refused(refusal) => print_value(rt, config_number(refusal) as u64),
-        ResizeAnswer::Damaged => print_value(rt, 28),
-    }
+    print_count(rt, resize(words, bytes, config));
     end_line(rt, words, bytes);
 }
 
 // Clears the cache.
 fn empty(rt: &impl Print, words: &mut [u64], bytes: &[u8]) {
     let _ = rt.print("clear:");
-    match clear(words, bytes) {
-        ClearAnswer::Done => print_value(rt, 0),
-        ClearAnswer::Damaged => print_value(rt, 28),
-    }
+    print_number(rt, clear(words, bytes));
     end_line(rt, words, bytes);
 }
 
@@ -206,12 +180,7 @@ fn eviction_and_age(rt: &impl Print) {
     let mut words = [0u64; 132];
     let mut bytes = [0u8; 16];
     let body = [0u8, 1, 2, 3, 4, 5, 6, 7, 8, 9, 10, 11, 12, 13, 14, 15];
-    begin(
-        rt,
-        &mut words,
-        &bytes,
-        limits(2, 2, 10, 16, Some(100)),
-    );
+    begin(rt, &mut words, &bytes, limits(2, 2, 10, 16, Some(100)));
     offer(rt, &mut words, &mut bytes, 300, &body[..6], 0);
     offer(rt, &mut words, &mut bytes, 301, &body[..8], 1);
     offer(rt, &mut words, &mut bytes, 300, &body[..4], 2);
@@ -245,12 +214,7 @@ fn listed(rt: &impl Print) {
     let mut words = [0u64; 132];
     let mut bytes = [0u8; 16];
     let body = [0u8, 1, 2, 3, 4, 5, 6, 7, 8, 9, 10, 11, 12, 13, 14, 15];
-    begin(
-        rt,
-        &mut words,
-        &bytes,
-        limits(2, 2, 10, 16, Some(100)),
-    );
+    begin(rt, &mut words, &bytes, limits(2, 2, 10, 16, Some(100)));
     offer(rt, &mut words, &mut bytes, 300, &body[..6], 0);
     offer(rt, &mut words, &mut bytes, 301, &body[..8], 1);
     offer(rt, &mut words, &mut bytes, 300, &body[..4], 2);
@@ -263,12 +227,7 @@ fn pruning_first(rt: &impl Print) {
     let mut words = [0u64; 132];
     let mut bytes = [0u8; 16];
     let body = [0u8, 1, 2, 3, 4, 5, 6, 7, 8, 9, 10, 11, 12, 13, 14, 15];
-    begin(
-        rt,
-        &mut words,
-        &bytes,
-        limits(2, 2, 10, 10, Some(100)),
-    );
+    begin(rt, &mut words, &bytes, limits(2, 2, 10, 10, Some(100)));
     offer(rt, &mut words, &mut bytes, 301, &body[..4], 50);
     offer(rt, &mut words, &mut bytes, 300, &body[..6], 1);
     offer(rt, &mut words, &mut bytes, 300, &body[..5], 101);
@@ -292,12 +251,7 @@ fn age_of_the_ttl(rt: &impl Print) {
     let mut words = [0u64; 132];
     let mut bytes = [0u8; 16];
     let body = [0u8, 1, 2, 3, 4, 5, 6, 7, 8, 9, 10, 11, 12, 13, 14, 15];
-    begin(
-        rt,
-        &mut words,
-        &bytes,
-        limits(1, 1, 10, 10, Some(100)),
-    );
+    begin(rt, &mut words, &bytes, limits(1, 1, 10, 10, Some(100)));
     offer(rt, &mut words, &mut bytes, 300, &body[..1], 0);
     ask(rt, &words, &bytes, 300, 2, 99);
     ask(rt, &words, &bytes, 300, 2, 100);
@@ -340,12 +294,7 @@ fn ends_and_limits(rt: &impl Print) {
     change_limits(rt, &mut words, &mut bytes, limits(3, 3, 0, 1, None));
     change_limits(rt, &mut words, &mut bytes, limits(3, 3, 2, 1, None));
     change_limits(rt, &mut words, &mut bytes, limits(1025, 1, 1, 1, None));
-    change_limits(
-        rt,
-        &mut words,
-        &mut bytes,
-        limits(2, 1, 9, 9, Some(0)),
-    );
+    change_limits(rt, &mut words, &mut bytes, limits(2, 1, 9, 9, Some(0)));
     change_limits(rt, &mut words, &mut bytes, limits(2, 2, 9, 12, None));
     offer(rt, &mut words, &mut bytes, 304, &body[..9], 0);
     take(rt, &mut words, &bytes, 304, 0);
