@@ -1,5 +1,5 @@
 -- The preflight of a body: its cost, or document 01's number of the refusal.
-use Rattle.std.specs.Prelude.{cond, List, ℕ, ◌*◌, length, ltb, leb}
+use Rattle.std.specs.Prelude.{cond, List, ℕ, ◌*◌, length, ltb, leb, Result, Ok, Err}
 use Rattle.wire.specs.declared.Reading.{Reading}
 use Rattle.wire.specs.Size.{least_size}
 use Rattle.wire.specs.Padding.{is_complete}
@@ -7,8 +7,7 @@ use Rattle.output_scan.specs.declared.Scanned.{Scanned}
 use Rattle.output_preflight.specs.declared.Figures.{Figures}
 use Rattle.output_preflight.specs.declared.Refusal.{Refusal}
 use Rattle.output_preflight.specs.declared.Refusal.TheVariants.{ZeroRecordLimit, Oversized, Invalid}
-use Rattle.output_preflight.specs.declared.PreflightAnswer.{PreflightAnswer}
-use Rattle.output_preflight.specs.declared.PreflightAnswer.TheVariants.{Valid, Refused}
+use Rattle.output_preflight.specs.declared.PendingOutputPreflight.{PendingOutputPreflight}
 use Rattle.output_scan.specs.Scan.{scan_of}
 
 -- what document 01 fixes: the cost in field values and payload bytes with the remainder's length, or a number
@@ -23,9 +22,9 @@ number_of Oversized = 12
 number_of Invalid = 7
 
 -- document 01's number and values of each case of the answer
-abbrev pub answer_of : PreflightAnswer → Answer
-answer_of (Valid p) = cost p.field_values.0 p.field_payload_bytes.0 p.remainder_len
-answer_of (Refused n) = number (number_of n)
+abbrev pub answer_of : Result PendingOutputPreflight Refusal → Answer
+answer_of (Ok p) = cost p.field_values.0 p.field_payload_bytes.0 p.remainder_len
+answer_of (Err n) = number (number_of n)
 
 -- an answer in numbers: 0 with the cost, or the number with zeros
 abbrev pub figures_of : Answer → Figures

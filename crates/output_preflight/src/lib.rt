@@ -11,15 +11,15 @@ use output_scan_variable::scan_variable_body;
 use wire::Reading;
 
 // A count of decoded field values.
-#[derive(Clone, Copy)]
+#[derive(Clone, Copy, Debug, PartialEq, Eq)]
 pub struct FieldValues(pub usize);
 
 // A count of decoded payload bytes, without length prefixes.
-#[derive(Clone, Copy)]
+#[derive(Clone, Copy, Debug, PartialEq, Eq)]
 pub struct PayloadBytes(pub usize);
 
 // What decoding a body costs, in both counts, and how many bytes it leaves.
-#[derive(Clone, Copy)]
+#[derive(Clone, Copy, Debug, PartialEq, Eq)]
 pub struct PendingOutputPreflight {
     pub field_values: FieldValues,
     pub field_payload_bytes: PayloadBytes,
@@ -27,7 +27,7 @@ pub struct PendingOutputPreflight {
 }
 
 // Why a preflight gives no cost.
-#[derive(Clone, Copy)]
+#[derive(Clone, Copy, Debug, PartialEq, Eq)]
 pub enum Refusal {
     // the record limit is 0
     ZeroRecordLimit,
@@ -37,26 +37,21 @@ pub enum Refusal {
     Invalid,
 }
 
-// What a preflight finds.
-#[derive(Clone, Copy)]
-pub enum PreflightAnswer {
-    Valid(PendingOutputPreflight),
-    Refused(Refusal),
-}
-
 // Document 01's number of a refusal.
-pub fn refusal_number(refusal: Refusal) -> u32
-    ensures { result ≡ number_of refusal }
-{
-    match refusal {
-        Refusal::ZeroRecordLimit => 9,
-        Refusal::Oversized => 12,
-        Refusal::Invalid => 7,
+impl From<Refusal> for u32 {
+    ghost from_gives = { λ refusal number. number ≡ number_of refusal };
+
+    fn from(refusal: Refusal) -> u32 {
+        match refusal {
+            Refusal::ZeroRecordLimit => 9,
+            Refusal::Oversized => 12,
+            Refusal::Invalid => 7,
+        }
     }
 }
 
 // An answer in numbers: document 01's number, 0 for a cost, and the values, which are 0 in a refusal.
-#[derive(Clone, Copy)]
+#[derive(Clone, Copy, Debug, PartialEq, Eq)]
 pub struct Figures {
     pub number: u64,
     pub values: u64,
@@ -65,23 +60,18 @@ pub struct Figures {
 }
 
 // The numbers of an answer.
-pub fn answer_figures(answer: PreflightAnswer) -> Figures
+pub fn answer_figures(answer: Result<PendingOutputPreflight, Refusal>) -> Figures
     ensures { result ≡ figures_of (answer_of answer) }
 {
     match answer {
-        PreflightAnswer::Valid(cost) => {
-            let values = cost.field_values.0;
-            let payload = cost.field_payload_bytes.0;
-            let remainder = cost.remainder_len;
-            Figures {
-                number: 0,
-                values: values as u64,
-                payload: payload as u64,
-                remainder: remainder as u64,
-            }
-        }
-        PreflightAnswer::Refused(refusal) => Figures {
-            number: refusal_number(refusal) as u64,
+        Ok(cost) => Figures {
+            number: 0,
+            values: cost.field_values.0 as u64,
+            payload: cost.field_payload_bytes.0 as u64,
+            remainder: cost.remainder_len as u64,
+        },
+        Err(refusal) => Figures {
+            number: u32::from(refusal) as u64,
             values: 0,
             payload: 0,
             remainder: 0,
@@ -107,51 +97,55 @@ fn scan_body(
     ensures { result ≡ scan_of body.now widths.now reading max_records }
 {
     match reading {
-        Reading::V9Fixed => scan_fixed_body(body.len(), least, max_records),
-        Reading::IpfixFixed => scan_fixed_body(body.len(), least, max_records),
+        Reading::V9Fixed | Reading::IpfixFixed => scan_fixed_body(body.len(), least, max_records),
         Reading::IpfixVariable => scan_variable_body(body, widths, least, max_records),
     }
 }
 
 // A scan's cost, where the body is complete: `fields` fields a record.
-fn cost_of(scanned: Scanned, fields: usize, least: usize, reading: Reading) -> PreflightAnswer
+fn cost_of(
+    scanned: Scanned,
+    fields: usize,
+    least: usize,
+    reading: Reading,
+) -> Result<PendingOutputPreflight, Refusal>
     requires { (fields ≤ 65535) × (scanned.records ≤ 65531) }
     ensures { answer_of result ≡ cost_of scanned fields least reading }
 {
-    let remainder_len = scanned.remainder;
-    let records = scanned.records;
-    if wire::record_body_is_complete(records, remainder_len, least, reading) {
-        let payload = scanned.payload;
-        return PreflightAnswer::Valid(PendingOutputPreflight {
-            field_values: FieldValues(records * fields),
-            field_payload_bytes: PayloadBytes(payload),
-            remainder_len,
-        });
+    let Scanned {
+        records,
+        payload,
+        remainder,
+    } = scanned;
+    if !wire::record_body_is_complete(records, remainder, least, reading) {
+        return Err(Refusal::Invalid);
     }
-    PreflightAnswer::Refused(Refusal::Invalid)
+    Ok(PendingOutputPreflight {
+        field_values: FieldValues(records * fields),
+        field_payload_bytes: PayloadBytes(payload),
+        remainder_len: remainder,
+    })
 }
 
 // The cost of decoding a body, or why there is none: at most `max_records` records are counted.
+#[tactic(auto, using(output_scan::proofs::Records::scanned_few, crate::proofs::Costs::cost_by_scan), unfolding(crate::specs::Preflight::preflight_of))]
 pub fn preflight(
     body: &[u8],
     widths: &[u16],
     reading: Reading,
     max_records: usize,
-) -> PreflightAnswer
+) -> Result<PendingOutputPreflight, Refusal>
     ensures { answer_of result ≡ preflight_of body.now widths.now reading max_records }
 {
     if max_records == 0 {
-        return PreflightAnswer::Refused(Refusal::ZeroRecordLimit);
+        return Err(Refusal::ZeroRecordLimit);
     }
-    if MAX_BODY_LEN < body.len() {
-        return PreflightAnswer::Refused(Refusal::Oversized);
-    }
-    if MAX_WIDTHS < widths.len() {
-        return PreflightAnswer::Refused(Refusal::Oversized);
+    if body.len() > MAX_BODY_LEN || widths.len() > MAX_WIDTHS {
+        return Err(Refusal::Oversized);
     }
     let least = wire::minimum_record_size(widths, reading);
     if least == 0 {
-        return PreflightAnswer::Refused(Refusal::Invalid);
+        return Err(Refusal::Invalid);
     }
     let scanned = scan_body(body, widths, least, reading, max_records);
     cost_of(scanned, widths.len(), least, reading)
