@@ -6,7 +6,7 @@ ghost use Rattle.wire.specs.Size.{least_field_size, least_size};
 ghost use Rattle.wire.specs.Padding.{short_padding, v9_padding, is_complete};
 
 // How the widths of a template are read.
-#[derive(Clone, Copy)]
+#[derive(Clone, Copy, Debug, PartialEq, Eq)]
 pub enum Reading {
     // NetFlow v9: every width is plain, 65,535 too.
     V9Fixed,
@@ -21,9 +21,8 @@ fn minimum_field_size(width: u16, reading: Reading) -> usize
     ensures { result ≡ least_field_size width reading }
 {
     match reading {
-        Reading::V9Fixed => width as usize,
-        Reading::IpfixFixed => width as usize,
-        Reading::IpfixVariable => { if width == 65535 { 1 } else { width as usize } }
+        Reading::IpfixVariable if width == 65535 => 1,
+        _ => width as usize,
     }
 }
 
@@ -32,14 +31,10 @@ pub fn minimum_record_size(widths: &[u16], reading: Reading) -> usize
     requires { length widths.now ≤ 65535 }
     ensures { result ≡ least_size widths.now reading }
 {
-    let mut sum: usize = 0;
-    let mut i: usize = 0;
-    while i < widths.len() {
-        let width = widths[i];
-        sum += minimum_field_size(width, reading);
-        i += 1;
-    }
-    sum
+    widths
+        .iter()
+        .map(|width| minimum_field_size(*width, reading))
+        .sum()
 }
 
 // Padding is shorter than a record.
@@ -53,13 +48,11 @@ fn is_short_padding(padding_len: usize, minimum_record_size: usize) -> bool
 fn is_v9_padding(padding_len: usize, minimum_record_size: usize) -> bool
     ensures { result ≡ v9_padding padding_len minimum_record_size }
 {
-    if padding_len <= 3 {
-        return is_short_padding(padding_len, minimum_record_size);
-    }
-    false
+    padding_len <= 3 && is_short_padding(padding_len, minimum_record_size)
 }
 
 // At least one whole record, and after the last of them nothing but padding.
+#[tactic(auto, unfolding(crate::specs::Padding::is_complete))]
 pub fn record_body_is_complete(
     records: usize,
     remainder_len: usize,
@@ -73,7 +66,8 @@ pub fn record_body_is_complete(
     }
     match reading {
         Reading::V9Fixed => is_v9_padding(remainder_len, minimum_record_size),
-        Reading::IpfixFixed => is_short_padding(remainder_len, minimum_record_size),
-        Reading::IpfixVariable => is_short_padding(remainder_len, minimum_record_size),
+        Reading::IpfixFixed | Reading::IpfixVariable => {
+            is_short_padding(remainder_len, minimum_record_size)
+        }
     }
 }
