@@ -1,49 +1,32 @@
 -- Which fields say their length themselves: the loops over the widths. Assumes nothing.
 use mathlib.Core.Path.{◌≡◌, refl, ap, sym, ◌∙◌}
-use mathlib.Core.Bool.{Bool, true, false, cond}
-use mathlib.Core.List.{List}
+use mathlib.Core.Bool.{Bool, true, false, cond, ◌||◌}
+use mathlib.Core.List.{List, [], ◌∷◌}
 use Prim.Native.Nat.{ℕ, ◌+◌, ◌*◌, ◌-◌, ◌≤◌, ◌<◌}
 use native.Mathlib.Numerals.{add-one}
 use native.Mathlib.Omega.{arith}
 use lib.ListN.{length, get_or, take, drop, drop_of_length-le}
 use lib.Seq.{drop-cons}
+use lib.Dec.{eqb}
+use Rattle.std.specs.List.{list_any}
 use borrow.Author.Tests.{eq-eqb, ne_eqb}
 use Rattle.output_fields.specs.declared.Layout.{Layout}
 use Rattle.output_fields.specs.declared.Layout.TheVariants.{Fixed, One, Several}
 use Rattle.output_fields.specs.Layout.{has_variable, behind_fixed, layout_of}
 use Rattle.output_fields.proofs.Tails.{tail_is_drop}
 
--- The loop that looks for a variable-length field: the first i fields are none.
-pub record NonePassed (ws : List ℕ) (i : ℕ) : Type 0 where
-  -- no more fields than widths
-  pub passed : i ≤ length ws
-  -- if there is one, it is among the fields that are left
-  pub left : has_variable ws ≡ has_variable (drop i ws)
+either_cond : (a b : Bool) → (a || b) ≡ cond a true b
+either_cond true b = refl
+either_cond false b = refl
 
-pub none_passed : (ws : List ℕ) → NonePassed ws 0
-none_passed ws = record { passed = omega arith; left = refl }
-
-module _ {ws : List ℕ} {i : ℕ} (inv : NonePassed ws i) where
-  pub plain_passed : i < length ws → (get_or ws i 0 ≡ 65535 → ⊥) → NonePassed ws (i + 1)
-  unfolding has_variable
-  plain_passed h k =
-      record {
-        passed = omega arith;
-        left = inv.left ∙ rw (add-one, drop-cons ws i 0, ne_eqb (get_or ws i 0) 65535 k);
-      }
-
-  pub one_found : i < length ws → get_or ws i 0 ≡ 65535 → true ≡ has_variable ws
-  unfolding has_variable
-  one_found h k = sym (inv.left ∙ rw (drop-cons ws i 0, eq-eqb (get_or ws i 0) 65535 k))
-
-  pub none_found : length ws ≤ i → false ≡ has_variable ws
-  unfolding has_variable
-  none_found h = sym (inv.left ∙ rw (drop_of_length-le ws h))
+-- a field says its length itself where a width is 65,535
+pub any_variable : (ws : List ℕ) → list_any (λ w. eqb w 65535) ws ≡ has_variable ws
+unfolding has_variable
+any_variable [] = refl
+any_variable (w ∷ ws) = rw (any_variable ws) (either_cond (eqb w 65535) (has_variable ws))
 
 -- The loop over the widths before the first variable-length field: i fields passed, of `lead` bytes.
 pub record LeadPassed (ws : List ℕ) (lead i : ℕ) : Type 0 where
-  -- no more fields than widths
-  pub passed : i ≤ length ws
   -- each has at most 65,535 bytes
   pub small : lead ≤ 65535 * i
   -- the layout is that of the fields that are left, behind these bytes
@@ -60,7 +43,7 @@ behind_both a b (One lead) = ap One (omega arith)
 behind_both a b Several = refl
 
 pub no_lead : (ws : List ℕ) → LeadPassed ws 0 0
-no_lead ws = record { passed = omega arith; small = omega arith; left = behind_nothing (layout_of ws) }
+no_lead ws = record { small = omega arith; left = behind_nothing (layout_of ws) }
 
 module _ {ws : List ℕ} {lead i : ℕ} (inv : LeadPassed ws lead i) (h : i < length ws) where
   pub lead_passed : {w : ℕ} → w ≡ get_or ws i 0 → w ≤ 65535 → (w ≡ 65535 → ⊥) → LeadPassed ws (lead + w) (i + 1)
@@ -69,7 +52,6 @@ module _ {ws : List ℕ} {lead i : ℕ} (inv : LeadPassed ws lead i) (h : i < le
       let plain : get_or ws i 0 ≡ 65535 → ⊥ = λ f. k (e ∙ f) in
       rw e
       (record {
-        passed = omega arith;
         small = omega arith;
         left = inv.left ∙ rw (add-one, drop-cons ws i 0, ne_eqb (get_or ws i 0) 65535 plain, behind_both);
       })
@@ -92,3 +74,5 @@ module _ {ws : List ℕ} {lead i : ℕ} (inv : LeadPassed ws lead i) (h : i < le
 pub all_fixed : {ws : List ℕ} {lead i : ℕ} → LeadPassed ws lead i → length ws ≤ i → Fixed ≡ layout_of ws
 unfolding layout_of
 all_fixed {ws} inv h = sym (inv.left ∙ rw (drop_of_length-le ws h))
+
+pub ruleset layouts = (no_lead, lead_passed, several_found, one_alone, all_fixed)

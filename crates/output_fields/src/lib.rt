@@ -5,7 +5,7 @@ ghost use Rattle.std.specs.Prelude.{◌≡◌, ◌+◌, ◌*◌, ◌≤◌, ◌<
 ghost use Rattle.output_fields.specs.Layout.{has_variable, layout_of};
 
 // Which fields of a template say their length themselves.
-#[derive(Drop)]
+#[derive(Clone, Copy, Debug, PartialEq, Eq)]
 pub enum Layout {
     // none
     Fixed,
@@ -19,29 +19,19 @@ pub enum Layout {
 fn has_variable(widths: &[u16]) -> bool
     ensures { result ≡ has_variable widths.now }
 {
-    let mut i: usize = 0;
-    while i < widths.len() {
-        let width = widths[i];
-        if width == 65535 {
-            return true;
-        }
-        i += 1;
-    }
-    false
+    widths.contains(&65535)
 }
 
 // The layout of a template.
+#[tactic(auto, using(crate::proofs::Widths::layouts))]
 pub fn layout_of(widths: &[u16]) -> Layout
     requires { length widths.now ≤ 65535 }
     ensures { result ≡ layout_of widths.now }
 {
     let mut lead: usize = 0;
-    let mut i: usize = 0;
-    while i < widths.len() {
-        let width = widths[i];
-        i += 1;
+    for (i, &width) in widths.iter().enumerate() {
         if width == 65535 {
-            if has_variable(&widths[i..]) {
+            if has_variable(&widths[i + 1..]) {
                 return Layout::Several;
             }
             return Layout::One { lead };
@@ -64,5 +54,5 @@ pub fn long_length(bytes: &[u8], at: usize) -> usize
     requires { at + 2 < length bytes.now }
     ensures { (result ≡ get_or bytes.now (at + 1) 0 * 256 + get_or bytes.now (at + 2) 0) × (result ≤ 65535) }
 {
-    byte_at(bytes, at + 1) * 256 + byte_at(bytes, at + 2)
+    u16::from_be_bytes([bytes[at + 1], bytes[at + 2]]) as usize
 }
