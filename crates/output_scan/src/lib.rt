@@ -5,7 +5,7 @@ ghost use Rattle.std.specs.Prelude.{◌≡◌, ◌<◌};
 ghost use Rattle.output_scan.specs.Scan.{fixed_scan_of};
 
 // A scan's figures: whole records, their payload without prefixes, and the bytes after the last of them.
-#[derive(Drop)]
+#[derive(Clone, Copy, Debug, PartialEq, Eq)]
 pub struct Scanned {
     pub records: usize,
     pub payload: usize,
@@ -17,10 +17,7 @@ pub fn scan_fixed_body(body_len: usize, record_size: usize, max_records: usize) 
     requires { 0 < record_size }
     ensures { result ≡ fixed_scan_of body_len record_size max_records }
 {
-    let mut records = body_len / record_size;
-    if max_records < records {
-        records = max_records;
-    }
+    let records = (body_len / record_size).min(max_records);
     let consumed = records * record_size;
     Scanned {
         records,

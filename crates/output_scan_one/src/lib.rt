@@ -26,6 +26,7 @@ pub fn scan_one_variable(
     let mut rest = body;
     let mut records: usize = 0;
     let mut long: usize = 0;
+    // no `for`: the count is a result too, and would stand beside the loop's own
     while records < max_records {
         if rest.len() < least {
             break;

@@ -19,6 +19,7 @@ pub fn scan_fields(body: &[u8], widths: &[u16], least: usize, max_records: usize
     let mut rest = body;
     let mut records: usize = 0;
     let mut payload: usize = 0;
+    // no `for`: the count is a result too, and would stand beside the loop's own
     'records: while records < max_records {
         if rest.len() < least {
             break 'records;
@@ -26,10 +27,7 @@ pub fn scan_fields(body: &[u8], widths: &[u16], least: usize, max_records: usize
         let mut next = &rest[least..];
         let mut at: usize = 0;
         let mut prefixes: usize = 0;
-        let mut i: usize = 0;
-        'fields: while i < widths.len() {
-            let width = widths[i];
-            i += 1;
+        'fields: for &width in widths {
             if width != 65535 {
                 at += width as usize;
                 continue 'fields;

@@ -1,15 +1,11 @@
 use Prim.Native.Nat.{◌-◌}
-use lib.ListN.{length}
 use Rattle.wire.specs.declared.Reading.TheVariants.{IpfixVariable}
 use Rattle.output_scan.proofs.Records.{RecordsPassed}
 use Rattle.output_scan.proofs.Spare.{FieldsSpared}
 use Rattle.output_scan_several.proofs.scan_fields.Given as goal
 
 abbrev pub invariant-fields : goal.invariant-fields
-invariant-fields l = FieldsSpared l.rest l.widths l.next l.at l.prefixes l.i
-
-abbrev pub decreases-fields : goal.decreases-fields
-decreases-fields l = length l.widths - l.i
+invariant-fields l = FieldsSpared l.rest l.widths l.next l.at l.prefixes l.width-index
 
 abbrev pub invariant-records : goal.invariant-records
 invariant-records l = RecordsPassed l.body l.widths IpfixVariable l.max_records l.rest l.records l.payload
