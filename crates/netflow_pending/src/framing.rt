@@ -2,6 +2,8 @@
 ghost use Rattle.wire.specs.declared.Reading.TheVariants.{V9Fixed, IpfixFixed, IpfixVariable};
 ghost use Rattle.export_framing.specs.Framing.{Preflights};
 
+use wire::Reading;
+
 // The preflight of a NetFlow v9 body: 0 with the cost written, or 9, 12 or 7 with the words as they were.
 #[unsafe(no_mangle)]
 pub extern "C" fn netflow_preflight_v9_fixed(
@@ -13,7 +15,7 @@ pub extern "C" fn netflow_preflight_v9_fixed(
     ensures { Preflights body.now widths.now V9Fixed max_records result
         cost.old cost.new }
 {
-    export_framing::preflight_v9_fixed(body, widths, max_records, cost)
+    export_framing::preflight(body, widths, Reading::V9Fixed, max_records, cost)
 }
 
 // The same of an IPFIX body without variable-length fields.
@@ -27,7 +29,7 @@ pub extern "C" fn netflow_preflight_ipfix_fixed(
     ensures { Preflights body.now widths.now IpfixFixed max_records result
         cost.old cost.new }
 {
-    export_framing::preflight_ipfix_fixed(body, widths, max_records, cost)
+    export_framing::preflight(body, widths, Reading::IpfixFixed, max_records, cost)
 }
 
 // The same of an IPFIX body in which fields of width 65,535 say their length themselves.
@@ -41,5 +43,5 @@ pub extern "C" fn netflow_preflight_ipfix_variable(
     ensures { Preflights body.now widths.now IpfixVariable max_records result
         cost.old cost.new }
 {
-    export_framing::preflight_ipfix_variable(body, widths, max_records, cost)
+    export_framing::preflight(body, widths, Reading::IpfixVariable, max_records, cost)
 }
