@@ -8,9 +8,7 @@ ghost use Rattle.std.specs.Prelude.{◌≤◌, ◌≡◌, length};
 ghost use Rattle.replay_preflight.specs.Same.{same_figures};
 
 use output_preflight::{Figures, answer_figures};
-use recorded::{
-    BUFFERS, Tally, fill, first_digit, large_buffer, move_to_front, next_number, whole_lines,
-};
+use recorded::{BUFFERS, Tally, fill, first_digit, move_to_front, next_number, whole_lines};
 use wire::Reading;
 
 // A row's end in the text, and whether the answer is the recorded one.
@@ -20,20 +18,7 @@ struct Compared {
     same: bool,
 }
 
-// Room for the widths and the body of a row.
-fn width_room() -> [u16; 1024]
-    ensures { 1024 ≡ length result }
-{
-    [0; 1024]
-}
-
-fn body_room() -> [u8; 1024]
-    ensures { 1024 ≡ length result }
-{
-    [0; 1024]
-}
-
-// The reading with a number of the list.
+// The reading with a number of the list. No `TryFrom`: neither type is of this crate.
 fn reading_of(n: u64) -> Reading {
     match n {
         0 => Reading::V9Fixed,
@@ -42,52 +27,30 @@ fn reading_of(n: u64) -> Reading {
     }
 }
 
-// Reads n widths, as far as there is room, and answers where the text goes on.
-fn read_widths(text: &[u8], at: usize, n: usize, widths: &mut [u16]) -> usize {
-    let mut at = at;
-    let mut i: usize = 0;
-    while i < n {
-        if widths.len() <= i {
-            return at;
-        }
+// Reads n widths or bytes, as far as there is room, and answers where the text goes on.
+fn read_numbers<T: Copy, F: Fn(u64) -> T>(
+    text: &[u8],
+    mut at: usize,
+    n: usize,
+    room: &mut [T],
+    of_number: F,
+) -> usize
+    requires { F.IsAlwaysCallable of_number }
+{
+    for place in room.iter_mut().take(n) {
         let read = next_number(text, at);
-        widths[i] = (read.value % 65536) as u16;
+        *place = of_number(read.value);
         at = read.next;
-        i += 1;
-    }
-    at
-}
-
-// Reads n bytes, as far as there is room, and answers where the text goes on.
-fn read_body(text: &[u8], at: usize, n: usize, body: &mut [u8]) -> usize {
-    let mut at = at;
-    let mut i: usize = 0;
-    while i < n {
-        if body.len() <= i {
-            return at;
-        }
-        let read = next_number(text, at);
-        body[i] = (read.value % 256) as u8;
-        at = read.next;
-        i += 1;
     }
     at
 }
 
 // Whether two answers are the same, figure by figure.
+#[tactic(auto, unfolding(crate::specs::Same::same_figures))]
 fn same_figures(a: Figures, b: Figures) -> bool
     ensures { result ≡ same_figures a b }
 {
-    if a.number != b.number {
-        return false;
-    }
-    if a.values != b.values {
-        return false;
-    }
-    if a.payload != b.payload {
-        return false;
-    }
-    a.remainder == b.remainder
+    a == b
 }
 
 // Compares an answer with the one recorded from `at` on.
@@ -117,14 +80,9 @@ fn run_preflight(
     reading: u64,
     limit: u64,
 ) -> Figures {
-    if body.len() < body_len {
+    let (Some(body), Some(widths)) = (body.get(..body_len), widths.get(..fields)) else {
         return no_room();
-    }
-    if widths.len() < fields {
-        return no_room();
-    }
-    let body = &body[..body_len];
-    let widths = &widths[..fields];
+    };
     answer_figures(output_preflight::preflight(body, widths, reading_of(reading), limit as usize))
 }
 
@@ -144,28 +102,25 @@ fn run_row(text: &[u8], at: usize, widths: &mut [u16], body: &mut [u8]) -> Compa
     let limit = next_number(text, reading.next);
     let n = next_number(text, limit.next);
     let fields = n.value as usize;
-    let after_widths = read_widths(text, n.next, fields, widths);
+    let after_widths = read_numbers(text, n.next, fields, widths, |n| (n % 65536) as u16);
     let m = next_number(text, after_widths);
     let body_len = m.value as usize;
-    let after_body = read_body(text, m.next, body_len, body);
+    let after_body = read_numbers(text, m.next, body_len, body, |n| (n % 256) as u8);
     let got = run_preflight(body, body_len, widths, fields, reading.value, limit.value);
     compare(text, after_body, got)
 }
 
 // Runs the rows of a text, and names those that differ.
-fn run_rows(rt: &impl Print, text: &[u8], tally: Tally) -> Tally {
-    let mut widths_room = width_room();
-    let mut bytes_room = body_room();
-    let widths: &mut [u16] = &mut widths_room;
-    let body: &mut [u8] = &mut bytes_room;
-    let mut tally = tally;
+fn run_rows(rt: &impl Print, text: &[u8], mut tally: Tally) -> Tally {
+    let mut widths = [0u16; 1024];
+    let mut body = [0u8; 1024];
     let mut at: usize = 0;
     while at < text.len() {
         let start = first_digit(text, at);
         if start == text.len() {
             break;
         }
-        let compared = run_row(text, start, widths, body);
+        let compared = run_row(text, start, &mut widths, &mut body);
         tally = tally.with_row(rt, compared.same);
         if compared.next <= at {
             break;
@@ -173,13 +128,6 @@ fn run_rows(rt: &impl Print, text: &[u8], tally: Tally) -> Tally {
         at = compared.next;
     }
     tally
-}
-
-// Runs the rows among the first bytes of the buffer.
-fn run_lines(rt: &impl Print, buffer: &[u8], lines: usize, tally: Tally) -> Tally
-    requires { lines ≤ length buffer.now }
-{
-    run_rows(rt, &buffer[..lines], tally)
 }
 
 // A right row, and one that is wrong in each figure: a comparison that notices nothing would show here.
@@ -192,20 +140,17 @@ fn run_wrong_rows(rt: &impl Print) {
 fn main(rt: HostRuntime) {
     run_wrong_rows(&rt);
     let mut reader = rt.reader();
-    let mut room = large_buffer();
-    let buffer: &mut [u8] = &mut room;
+    let mut buffer = [0u8; 65536];
     let mut tally = Tally::new();
     let mut kept: usize = 0;
-    let mut turn: usize = 0;
-    while turn < BUFFERS {
-        let n = fill(&mut reader, buffer, kept);
-        let lines = whole_lines(buffer, n);
+    for _ in 0..BUFFERS {
+        let n = fill(&mut reader, &mut buffer, kept);
+        let lines = whole_lines(&buffer, n);
         if lines == 0 {
             break;
         }
-        tally = run_lines(&rt, buffer, lines, tally);
-        kept = move_to_front(buffer, lines, n);
-        turn += 1;
+        tally = run_rows(&rt, &buffer[..lines], tally);
+        kept = move_to_front(&mut buffer, lines, n);
     }
     tally.print(&rt);
 }

@@ -1,25 +1,19 @@
 // Runs document 01's cases, marked P or not, on the code, and prints each answer: the number, then the values.
 #![tactic(auto)]
 
-use output_preflight::{PreflightAnswer, answer_figures, preflight};
+use output_preflight::{PendingOutputPreflight, Refusal, preflight};
 use wire::Reading;
 
-// Prints a blank and a number.
-fn print_value(rt: &impl Print, n: u64) {
-    let _ = print!(rt; " {n}");
-}
-
-// Prints the case's name and its answer: the number, and after 0 the cost and the remainder.
-fn show(rt: &impl Print, name: &str, answer: PreflightAnswer) {
-    let _ = rt.print(name);
-    let told = answer_figures(answer);
-    print_value(rt, told.number);
-    if told.number == 0 {
-        print_value(rt, told.values);
-        print_value(rt, told.payload);
-        print_value(rt, told.remainder);
-    }
-    let _ = rt.println("");
+// Prints the case's name and its answer: 0 with the cost and the remainder, or the refusal's number.
+fn show(rt: &impl Print, name: &str, answer: Result<PendingOutputPreflight, Refusal>) {
+    let _ = match answer {
+        Ok(cost) => {
+            let values = cost.field_values.0;
+            let payload = cost.field_payload_bytes.0;
+            println!(rt; "{name} 0 {values} {payload} {}", cost.remainder_len)
+        }
+        Err(refusal) => println!(rt; "{name} {}", u32::from(refusal)),
+    };
 }
 
 // Widths 4, 4.
