@@ -1,18 +1,14 @@
 -- The decoded-output budget (document 01, numbers 23, 24 and 26). `.0` of a count is its number.
 use Rattle.std.specs.Prelude.{◌≡◌, Bool, true, false, cond, ◌||◌, List, [], ◌∷◌, ℕ, ◌+◌, ◌-◌, ◌≤◌, ◌^◌, min, max, ltb, eqb}
+use Rattle.std.specs.Prelude.{Option, Some, None, Result, Ok, Err}
 use Rattle.output_preflight.specs.declared.FieldValues.{FieldValues}
 use Rattle.output_preflight.specs.declared.PayloadBytes.{PayloadBytes}
 use Rattle.output_budget.specs.declared.DecodedOutputLimit.{DecodedOutputLimit}
 use Rattle.output_budget.specs.declared.DecodedOutputLimit.TheVariants as Limit
 use Rattle.output_budget.specs.declared.OutputBudgetExceeded.{OutputBudgetExceeded}
-use Rattle.output_budget.specs.declared.Exceeded.{Exceeded}
-use Rattle.output_budget.specs.declared.Exceeded.TheVariants.{None, Recorded}
 use Rattle.output_budget.specs.declared.DecodedOutputBudget.{DecodedOutputBudget}
 use Rattle.output_budget.specs.declared.OutputCounts.{OutputCounts}
-use Rattle.output_budget.specs.declared.ReserveAnswer.{ReserveAnswer}
-use Rattle.output_budget.specs.declared.ReserveAnswer.TheVariants as Reserve
-use Rattle.output_budget.specs.declared.RollbackAnswer.{RollbackAnswer}
-use Rattle.output_budget.specs.declared.RollbackAnswer.TheVariants as Rollback
+use Rattle.output_budget.specs.declared.AboveUse.{AboveUse}
 use Rattle.output_budget.specs.Told.{Told, done, refusal}
 
 -- a budget as it opens: nothing used, nothing recorded
@@ -26,7 +22,7 @@ opened v p = record {
 }
 
 -- the same limits, with this use and this record
-abbrev pub with_use : DecodedOutputBudget → FieldValues → PayloadBytes → Exceeded → DecodedOutputBudget
+abbrev pub with_use : DecodedOutputBudget → FieldValues → PayloadBytes → Option OutputBudgetExceeded → DecodedOutputBudget
 with_use b v p x = record {
   max_values = b.max_values;
   max_payload_bytes = b.max_payload_bytes;
@@ -95,29 +91,29 @@ abbrev pub told_of_excess : OutputBudgetExceeded → Told
 told_of_excess e = record { number = number_of e.limit; values = values_of_excess e }
 
 -- what each answer of `take_exceeded` tells: it is always done, and has no values where none is recorded
-abbrev pub told_of_exceeded : Exceeded → Told
+abbrev pub told_of_exceeded : Option OutputBudgetExceeded → Told
 told_of_exceeded None = done
-told_of_exceeded (Recorded e) = record { number = 0; values = values_of_excess e }
+told_of_exceeded (Some e) = record { number = 0; values = values_of_excess e }
 
 -- what each answer of `reserve` tells
-abbrev pub told_of_reserve : ReserveAnswer → Told
-told_of_reserve Reserve.Reserved = done
-told_of_reserve (Reserve.Exceeded e) = told_of_excess e
+abbrev pub told_of_reserve : Result (Unit {0}) OutputBudgetExceeded → Told
+told_of_reserve (Ok u) = done
+told_of_reserve (Err e) = told_of_excess e
 
 -- what each answer of `rollback` tells
-abbrev pub told_of_rollback : RollbackAnswer → Told
-told_of_rollback Rollback.RolledBack = done
-told_of_rollback Rollback.AboveUse = refusal 26
+abbrev pub told_of_rollback : Result (Unit {0}) AboveUse → Told
+told_of_rollback (Ok u) = done
+told_of_rollback (Err e) = refusal 26
 
 -- whether an excess is recorded
-abbrev pub is_recorded : Exceeded → Bool
+abbrev pub is_recorded : Option OutputBudgetExceeded → Bool
 is_recorded None = false
-is_recorded (Recorded e) = true
+is_recorded (Some e) = true
 
 -- document 01: the first excess stays recorded
-abbrev pub first_excess : Exceeded → OutputBudgetExceeded → Exceeded
-first_excess None e = Recorded e
-first_excess (Recorded d) e = Recorded d
+abbrev pub first_excess : Option OutputBudgetExceeded → OutputBudgetExceeded → Option OutputBudgetExceeded
+first_excess None e = Some e
+first_excess (Some d) e = Some d
 
 -- a refused reservation leaves the use unchanged, and records its excess unless one is recorded
 abbrev pub recorded : DecodedOutputBudget → OutputBudgetExceeded → DecodedOutputBudget
@@ -170,19 +166,19 @@ rollback_budget b v p = cond (eqb (rollback_told b v p).number 0) (with_use b v 
 
 -- `reserve` of v field values and p payload bytes
 pub record Reserves
-    (b : DecodedOutputBudget) (v : FieldValues) (p : PayloadBytes) (a : ReserveAnswer) (b' : DecodedOutputBudget)
-    : Type 0 where
+    (b : DecodedOutputBudget) (v : FieldValues) (p : PayloadBytes) (a : Result (Unit {0}) OutputBudgetExceeded)
+    (b' : DecodedOutputBudget) : Type 0 where
   pub answer : told_of_reserve a ≡ reserve_told b v p
   pub budget : b' ≡ reserve_budget b v p
 
 -- `rollback` to v field values and p payload bytes
 pub record RollsBack
-    (b : DecodedOutputBudget) (v : FieldValues) (p : PayloadBytes) (a : RollbackAnswer) (b' : DecodedOutputBudget)
-    : Type 0 where
+    (b : DecodedOutputBudget) (v : FieldValues) (p : PayloadBytes) (a : Result (Unit {0}) AboveUse)
+    (b' : DecodedOutputBudget) : Type 0 where
   pub answer : told_of_rollback a ≡ rollback_told b v p
   pub budget : b' ≡ rollback_budget b v p
 
 -- `take_exceeded`: the recorded excess is told, and is recorded no longer
-pub record Takes (b : DecodedOutputBudget) (a : Exceeded) (b' : DecodedOutputBudget) : Type 0 where
+pub record Takes (b : DecodedOutputBudget) (a : Option OutputBudgetExceeded) (b' : DecodedOutputBudget) : Type 0 where
   pub answer : told_of_exceeded a ≡ told_of_exceeded b.exceeded
   pub budget : b' ≡ with_use b b.used_values b.used_payload_bytes None

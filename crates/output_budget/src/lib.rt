@@ -2,40 +2,38 @@
 #![tactic(auto)]
 
 ghost use Rattle.std.specs.Prelude.{◌≡◌, ◌-◌};
-ghost use Rattle.output_budget.specs.Budget.{opened, use_of, remaining_of, with_use, grown, SumsWithin};
+ghost use Rattle.output_budget.specs.Budget.{limit_of, number_of, opened, use_of, remaining_of, grown, SumsWithin};
 
 use output_preflight::{FieldValues, PayloadBytes};
 
 // Which limit an excess is of.
-#[derive(Clone, Copy)]
+#[derive(Clone, Copy, Debug, PartialEq, Eq)]
 pub enum DecodedOutputLimit {
     FieldValues,
     FieldPayloadBytes,
 }
 
 // A reservation that would have passed a limit: which one, its figure, and the sum that was attempted.
-#[derive(Clone, Copy)]
+#[derive(Clone, Copy, Debug, PartialEq, Eq)]
 pub struct OutputBudgetExceeded {
     pub limit: DecodedOutputLimit,
     pub configured: usize,
     pub attempted: usize,
 }
 
-// The first excess since the budget was opened or rolled back.
-#[derive(Clone, Copy)]
-pub enum Exceeded {
-    None,
-    Recorded(OutputBudgetExceeded),
-}
+// A rollback to a count above the one in use.
+#[derive(Clone, Copy, Debug, PartialEq, Eq)]
+pub struct AboveUse;
 
-// Both limits, both counts in use, and the first excess. The use may be above a limit.
+// Both limits, both counts in use, and the first excess since the budget was opened or rolled back. The use may be
+// above a limit.
 #[derive(Clone, Copy)]
 pub struct DecodedOutputBudget {
     pub max_values: FieldValues,
     pub max_payload_bytes: PayloadBytes,
     pub used_values: FieldValues,
     pub used_payload_bytes: PayloadBytes,
-    pub exceeded: Exceeded,
+    pub exceeded: Option<OutputBudgetExceeded>,
 }
 
 // A pair of counts: those in use, a checkpoint of them, or what remains.
@@ -45,49 +43,44 @@ pub struct OutputCounts {
     pub payload_bytes: PayloadBytes,
 }
 
-// What `reserve` answers: nothing is reserved where a limit would be passed.
-#[derive(Clone, Copy)]
-pub enum ReserveAnswer {
-    Reserved,
-    Exceeded(OutputBudgetExceeded),
+// A limit as a value of an answer.
+impl From<DecodedOutputLimit> for u64 {
+    ghost from_gives = { λ limit word. word ≡ limit_of limit };
+
+    fn from(limit: DecodedOutputLimit) -> u64 {
+        match limit {
+            DecodedOutputLimit::FieldValues => 1,
+            DecodedOutputLimit::FieldPayloadBytes => 2,
+        }
+    }
 }
 
-// What `rollback` answers: nothing is changed where a count is above the one in use.
-#[derive(Clone, Copy)]
-pub enum RollbackAnswer {
-    RolledBack,
-    AboveUse,
+// Document 01's number of passing a limit.
+impl From<OutputBudgetExceeded> for u32 {
+    ghost from_gives = { λ excess number. number ≡ number_of excess.limit };
+
+    fn from(excess: OutputBudgetExceeded) -> u32 {
+        match excess.limit {
+            DecodedOutputLimit::FieldValues => 23,
+            DecodedOutputLimit::FieldPayloadBytes => 24,
+        }
+    }
 }
 
-// What `take_exceeded` answers, and the budget after it.
-#[derive(Clone, Copy)]
-pub struct TakeOutcome {
-    pub answer: Exceeded,
-    pub budget: DecodedOutputBudget,
-}
+// Document 01's number of a refused rollback.
+impl From<AboveUse> for u32 {
+    ghost from_gives = { λ _ number. number ≡ 26 };
 
-// What `reserve` answers, and the budget after it.
-#[derive(Clone, Copy)]
-pub struct ReserveOutcome {
-    pub answer: ReserveAnswer,
-    pub budget: DecodedOutputBudget,
-}
-
-// What `rollback` answers, and the budget after it.
-#[derive(Clone, Copy)]
-pub struct RollbackOutcome {
-    pub answer: RollbackAnswer,
-    pub budget: DecodedOutputBudget,
+    fn from(_above: AboveUse) -> u32 {
+        26
+    }
 }
 
 // What is left of a limit, or 0 where more than the limit is in use.
 fn left(max: usize, used: usize) -> usize
     ensures { result ≡ max - used }
 {
-    if max < used {
-        return 0;
-    }
-    max - used
+    max.saturating_sub(used)
 }
 
 impl DecodedOutputBudget {
@@ -100,24 +93,24 @@ impl DecodedOutputBudget {
             max_payload_bytes,
             used_values: FieldValues(0),
             used_payload_bytes: PayloadBytes(0),
-            exceeded: Exceeded::None,
+            exceeded: None,
         }
     }
 
     // The same limits, with nothing used and nothing recorded.
-    pub fn reset(self) -> Self
-        ensures { result ≡ opened self.max_values self.max_payload_bytes }
+    pub fn reset(&mut self)
+        ensures { self.new ≡ opened self.old.max_values self.old.max_payload_bytes }
     {
-        DecodedOutputBudget::new(self.max_values, self.max_payload_bytes)
+        *self = DecodedOutputBudget::new(self.max_values, self.max_payload_bytes);
     }
 
     // Other limits, with nothing used and nothing recorded.
-    pub fn set_limits(mut self, max_values: FieldValues, max_payload_bytes: PayloadBytes) -> Self
-        ensures { result ≡ opened max_values max_payload_bytes }
+    pub fn set_limits(&mut self, max_values: FieldValues, max_payload_bytes: PayloadBytes)
+        ensures { self.new ≡ opened max_values max_payload_bytes }
     {
         self.max_values = max_values;
         self.max_payload_bytes = max_payload_bytes;
-        self.reset()
+        self.reset();
     }
 
     // The counts in use, to roll back to.
@@ -131,11 +124,9 @@ impl DecodedOutputBudget {
     pub fn used(self) -> OutputCounts
         ensures { result ≡ use_of self }
     {
-        let values = self.used_values;
-        let payload_bytes = self.used_payload_bytes;
         OutputCounts {
-            values,
-            payload_bytes,
+            values: self.used_values,
+            payload_bytes: self.used_payload_bytes,
         }
     }
 
@@ -150,33 +141,12 @@ impl DecodedOutputBudget {
     }
 
     // The use grown by two counts, whose sums the caller has tested: `output_reserve` or `output_pending`.
-    pub fn grow(self, values: FieldValues, payload: PayloadBytes) -> Self
-        requires { SumsWithin self values payload }
-        ensures { result ≡ grown self values payload }
+    pub fn grow(&mut self, values: FieldValues, payload: PayloadBytes)
+        requires { SumsWithin self.old values payload }
+        ensures { self.new ≡ grown self.old values payload }
     {
-        let used_values = FieldValues(self.used_values.0 + values.0);
-        let used_payload_bytes = PayloadBytes(self.used_payload_bytes.0 + payload.0);
-        let kept = self.exceeded;
-        self.with_use(used_values, used_payload_bytes, kept)
-    }
-
-    // The same limits, with this use and this record.
-    pub fn with_use(
-        self,
-        used_values: FieldValues,
-        used_payload_bytes: PayloadBytes,
-        exceeded: Exceeded,
-    ) -> Self
-        ensures { result ≡ with_use self used_values used_payload_bytes exceeded }
-    {
-        let max_values = self.max_values;
-        let max_payload_bytes = self.max_payload_bytes;
-        DecodedOutputBudget {
-            max_values,
-            max_payload_bytes,
-            used_values,
-            used_payload_bytes,
-            exceeded,
-        }
+        let before = *self;
+        self.used_values = FieldValues(before.used_values.0 + values.0);
+        self.used_payload_bytes = PayloadBytes(before.used_payload_bytes.0 + payload.0);
     }
 }

@@ -4,27 +4,18 @@
 ghost use Rattle.std.specs.Prelude.{◌≡◌};
 ghost use Rattle.output_budget.specs.Budget.{is_recorded, Takes};
 
-use output_budget::{DecodedOutputBudget, Exceeded, TakeOutcome};
-use output_preflight::{FieldValues, PayloadBytes};
+use output_budget::{DecodedOutputBudget, OutputBudgetExceeded};
 
 // Whether an excess is recorded.
 pub fn is_exceeded(b: DecodedOutputBudget) -> bool
     ensures { result ≡ is_recorded b.exceeded }
 {
-    let exceeded = b.exceeded;
-    match exceeded {
-        Exceeded::None => false,
-        Exceeded::Recorded(_) => true,
-    }
+    b.exceeded.is_some()
 }
 
 // The recorded excess, which is recorded no longer.
-pub fn take_exceeded(b: DecodedOutputBudget) -> TakeOutcome
-    ensures { Takes b result.answer result.budget }
+pub fn take_exceeded(b: &mut DecodedOutputBudget) -> Option<OutputBudgetExceeded>
+    ensures { Takes b.old result b.new }
 {
-    let answer = b.exceeded;
-    let values: FieldValues = b.used_values;
-    let payload: PayloadBytes = b.used_payload_bytes;
-    let budget = b.with_use(values, payload, Exceeded::None);
-    TakeOutcome { answer, budget }
+    b.exceeded.take()
 }

@@ -1,10 +1,9 @@
 -- The limits call (document 01, numbers 9, 10 and 11).
-use Rattle.std.specs.Prelude.{cond, [], ◌∷◌, ℕ, ◌*◌, eqb}
+use Rattle.std.specs.Prelude.{cond, [], ◌∷◌, ℕ, ◌*◌, eqb, Result, Ok, Err}
 use Rattle.output_preflight.specs.declared.FieldValues.{FieldValues}
 use Rattle.output_preflight.specs.declared.PayloadBytes.{PayloadBytes}
 use Rattle.output_limits.specs.declared.DecodedOutputLimits.{DecodedOutputLimits}
-use Rattle.output_limits.specs.declared.LimitsAnswer.{LimitsAnswer}
-use Rattle.output_limits.specs.declared.LimitsAnswer.TheVariants.{Accepted, Refused}
+use Rattle.output_limits.specs.declared.LimitsRefusal.{LimitsRefusal}
 use Rattle.output_limits.specs.declared.LimitsRefusal.TheVariants as Refusal
 use Rattle.output_budget.specs.Told.{Told, refusal}
 
@@ -20,12 +19,16 @@ default_limits = record {
 abbrev pub accepted : ℕ → FieldValues → PayloadBytes → Told
 accepted records values payload = record { number = 0; values = records ∷ values.0 ∷ payload.0 ∷ [] }
 
+-- document 01's number of each refusal
+abbrev pub number_of : LimitsRefusal → ℕ
+number_of Refusal.ZeroRecords = 9
+number_of Refusal.ZeroFieldValues = 10
+number_of Refusal.ZeroPayloadBytes = 11
+
 -- what each answer tells
-abbrev pub told_of_limits : LimitsAnswer → Told
-told_of_limits (Accepted l) = accepted l.max_records l.max_field_values l.max_field_payload_bytes
-told_of_limits (Refused Refusal.ZeroRecords) = refusal 9
-told_of_limits (Refused Refusal.ZeroFieldValues) = refusal 10
-told_of_limits (Refused Refusal.ZeroPayloadBytes) = refusal 11
+abbrev pub told_of_limits : Result DecodedOutputLimits LimitsRefusal → Told
+told_of_limits (Ok l) = accepted l.max_records l.max_field_values l.max_field_payload_bytes
+told_of_limits (Err r) = refusal (number_of r)
 
 -- document 01's 9, 10 and 11: a record, field-value or payload-byte limit of 0, in this order
 unfoldable pub limits_told : ℕ → FieldValues → PayloadBytes → Told

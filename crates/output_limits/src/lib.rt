@@ -2,7 +2,7 @@
 #![tactic(auto)]
 
 ghost use Rattle.std.specs.Prelude.{◌≡◌};
-ghost use Rattle.output_limits.specs.Limits.{told_of_limits, limits_told, default_limits};
+ghost use Rattle.output_limits.specs.Limits.{number_of, told_of_limits, limits_told, default_limits};
 ghost use Rattle.output_budget.specs.Budget.{opened};
 
 use output_budget::DecodedOutputBudget;
@@ -26,18 +26,24 @@ pub struct DecodedOutputLimits {
 }
 
 // Which limit is 0.
-#[derive(Clone, Copy)]
+#[derive(Clone, Copy, Debug, PartialEq, Eq)]
 pub enum LimitsRefusal {
     ZeroRecords,
     ZeroFieldValues,
     ZeroPayloadBytes,
 }
 
-// What the limits call answers.
-#[derive(Clone, Copy)]
-pub enum LimitsAnswer {
-    Accepted(DecodedOutputLimits),
-    Refused(LimitsRefusal),
+// Document 01's number of each refusal.
+impl From<LimitsRefusal> for u32 {
+    ghost from_gives = { λ refusal number. number ≡ number_of refusal };
+
+    fn from(refusal: LimitsRefusal) -> u32 {
+        match refusal {
+            LimitsRefusal::ZeroRecords => 9,
+            LimitsRefusal::ZeroFieldValues => 10,
+            LimitsRefusal::ZeroPayloadBytes => 11,
+        }
+    }
 }
 
 impl DecodedOutputLimits {
@@ -46,19 +52,19 @@ impl DecodedOutputLimits {
         max_records: usize,
         max_field_values: FieldValues,
         max_field_payload_bytes: PayloadBytes,
-    ) -> LimitsAnswer
+    ) -> Result<Self, LimitsRefusal>
         ensures { told_of_limits result ≡ limits_told max_records max_field_values max_field_payload_bytes }
     {
         if max_records == 0 {
-            return LimitsAnswer::Refused(LimitsRefusal::ZeroRecords);
+            return Err(LimitsRefusal::ZeroRecords);
         }
         if max_field_values.0 == 0 {
-            return LimitsAnswer::Refused(LimitsRefusal::ZeroFieldValues);
+            return Err(LimitsRefusal::ZeroFieldValues);
         }
         if max_field_payload_bytes.0 == 0 {
-            return LimitsAnswer::Refused(LimitsRefusal::ZeroPayloadBytes);
+            return Err(LimitsRefusal::ZeroPayloadBytes);
         }
-        LimitsAnswer::Accepted(DecodedOutputLimits {
+        Ok(DecodedOutputLimits {
             max_records,
             max_field_values,
             max_field_payload_bytes,
@@ -66,7 +72,7 @@ impl DecodedOutputLimits {
     }
 
     // The limits of a message unless configured.
-    pub fn defaults() -> DecodedOutputLimits
+    pub fn defaults() -> Self
         ensures { result ≡ default_limits }
     {
         DecodedOutputLimits {

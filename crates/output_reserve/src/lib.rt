@@ -4,68 +4,53 @@
 ghost use Rattle.std.specs.Prelude.{◌≡◌, ◌+◌, ltb};
 ghost use Rattle.output_budget.specs.Budget.{Reserves, attempted_sum, first_excess, recorded};
 
-use output_budget::{
-    DecodedOutputBudget, DecodedOutputLimit, Exceeded, OutputBudgetExceeded, ReserveAnswer,
-    ReserveOutcome,
-};
+use output_budget::{DecodedOutputBudget, DecodedOutputLimit, OutputBudgetExceeded};
 use output_preflight::{FieldValues, PayloadBytes};
-
-// The largest count, 2^64 - 1.
-const LARGEST: usize = 18446744073709551615;
 
 // Whether the sum is above the limit, also where it is above 2^64 - 1.
 fn passes(max: usize, used: usize, more: usize) -> bool
     ensures { result ≡ ltb max (used + more) }
 {
-    if max < used {
-        return true;
-    }
-    if max - used < more {
-        return true;
-    }
-    false
+    used.checked_add(more).is_none_or(|sum| max < sum)
 }
 
 // The sum, or the largest count where the sum is above it.
 fn attempted(used: usize, more: usize) -> usize
     ensures { result ≡ attempted_sum used more }
 {
-    if more <= LARGEST - used {
-        return used + more;
-    }
-    LARGEST
+    used.saturating_add(more)
 }
 
 // What is recorded once `excess` happens: the first one stays.
-fn first(kept: Exceeded, excess: OutputBudgetExceeded) -> Exceeded
+fn first(
+    kept: Option<OutputBudgetExceeded>,
+    excess: OutputBudgetExceeded,
+) -> Option<OutputBudgetExceeded>
     ensures { result ≡ first_excess kept excess }
 {
-    match kept {
-        Exceeded::None => Exceeded::Recorded(excess),
-        Exceeded::Recorded(_) => kept,
-    }
+    kept.or(Some(excess))
 }
 
 // A refused reservation: the use stays as it was.
-fn exceed(b: DecodedOutputBudget, excess: OutputBudgetExceeded) -> ReserveOutcome
-    ensures { result ≡ record { answer = ReserveAnswer.Exceeded excess; budget = recorded b excess } }
+fn exceed(
+    b: &mut DecodedOutputBudget,
+    excess: OutputBudgetExceeded,
+) -> Result<(), OutputBudgetExceeded>
+    ensures answer { result ≡ Err excess }
+    ensures budget { b.new ≡ recorded b.old excess }
 {
-    let kept = b.exceeded;
-    let exceeded = first(kept, excess);
-    let budget = b.with_use(b.used_values, b.used_payload_bytes, exceeded);
-    ReserveOutcome {
-        answer: ReserveAnswer::Exceeded(excess),
-        budget,
-    }
+    b.exceeded = first(b.exceeded, excess);
+    Err(excess)
 }
 
 // Both counts are reserved, or none of them: values are tested before payload.
-pub fn reserved(
-    b: DecodedOutputBudget,
+#[tactic(auto, unfolding(output_budget::specs::Budget::reserve_told, output_budget::specs::Budget::reserve_budget))]
+pub fn reserve(
+    b: &mut DecodedOutputBudget,
     values: FieldValues,
     payload: PayloadBytes,
-) -> ReserveOutcome
-    ensures { Reserves b values payload result.answer result.budget }
+) -> Result<(), OutputBudgetExceeded>
+    ensures { Reserves b.old values payload result b.new }
 {
     let max_values = b.max_values.0;
     let used_values = b.used_values.0;
@@ -91,9 +76,6 @@ pub fn reserved(
             },
         );
     }
-    let budget = b.grow(values, payload);
-    ReserveOutcome {
-        answer: ReserveAnswer::Reserved,
-        budget,
-    }
+    b.grow(values, payload);
+    Ok(())
 }

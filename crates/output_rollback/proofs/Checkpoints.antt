@@ -7,7 +7,7 @@ use Prim.Native.Nat.{◌≤◌}
 use native.Mathlib.Omega.{arith}
 use borrow.Author.Tests.{le-ltb}
 use Rattle.output_budget.specs.declared.DecodedOutputBudget.{DecodedOutputBudget}
-use Rattle.output_budget.specs.declared.Exceeded.TheVariants.{None}
+use Rattle.std.proofs.Common.{None}
 use Rattle.output_budget.specs.declared.OutputBudgetExceeded.{OutputBudgetExceeded}
 use Rattle.output_budget.specs.declared.OutputCounts.{OutputCounts}
 use Rattle.output_budget.specs.Told.{done}

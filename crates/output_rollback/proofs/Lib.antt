@@ -1,2 +1,1 @@
-pub mod Rollbacks
 pub mod Checkpoints

@@ -3,34 +3,26 @@
 
 ghost use Rattle.output_budget.specs.Budget.{RollsBack};
 
-use output_budget::{DecodedOutputBudget, Exceeded, RollbackAnswer, RollbackOutcome};
+use output_budget::{AboveUse, DecodedOutputBudget};
 use output_preflight::{FieldValues, PayloadBytes};
 
 // Back to counts that are not above those in use; what was recorded goes.
-pub fn rolled_back(
-    b: DecodedOutputBudget,
+#[tactic(auto, unfolding(output_budget::specs::Budget::rollback_told, output_budget::specs::Budget::rollback_budget))]
+pub fn rollback(
+    b: &mut DecodedOutputBudget,
     values: FieldValues,
     payload: PayloadBytes,
-) -> RollbackOutcome
-    ensures { RollsBack b values payload result.answer result.budget }
+) -> Result<(), AboveUse>
+    ensures { RollsBack b.old values payload result b.new }
 {
-    let used_values = b.used_values.0;
-    let used_payload_bytes = b.used_payload_bytes.0;
-    if used_values < values.0 {
-        return RollbackOutcome {
-            answer: RollbackAnswer::AboveUse,
-            budget: b,
-        };
+    if b.used_values.0 < values.0 {
+        return Err(AboveUse);
     }
-    if used_payload_bytes < payload.0 {
-        return RollbackOutcome {
-            answer: RollbackAnswer::AboveUse,
-            budget: b,
-        };
+    if b.used_payload_bytes.0 < payload.0 {
+        return Err(AboveUse);
     }
-    let budget = b.with_use(values, payload, Exceeded::None);
-    RollbackOutcome {
-        answer: RollbackAnswer::RolledBack,
-        budget,
-    }
+    b.used_values = values;
+    b.used_payload_bytes = payload;
+    b.exceeded = None;
+    Ok(())
 }
