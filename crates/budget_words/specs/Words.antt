@@ -1,31 +1,27 @@
 -- A budget as seven words: limits, use and recorded excess. Every content of the words is a budget. And a call's answer
 -- as a number and words.
-use Rattle.std.specs.Prelude.{◌≡◌, cond, List, [], ◌∷◌, ℕ, eqb, get_or}
+use Rattle.std.specs.Prelude.{◌≡◌, cond, List, [], ◌∷◌, ℕ, eqb, get_or, Option, Some, None, Result, Ok, Err}
 use Rattle.output_preflight.specs.declared.PendingOutputPreflight.{PendingOutputPreflight}
-use Rattle.output_preflight.specs.declared.PreflightAnswer.{PreflightAnswer}
-use Rattle.output_preflight.specs.declared.PreflightAnswer.TheVariants as Preflight
-use Rattle.output_preflight.specs.declared.Refusal.TheVariants as Refusal
+use Rattle.output_preflight.specs.declared.Refusal.{Refusal}
+use Rattle.output_preflight.specs.declared.Refusal.TheVariants.{Invalid}
 use Rattle.output_budget.specs.declared.DecodedOutputBudget.{DecodedOutputBudget}
 use Rattle.output_budget.specs.declared.DecodedOutputLimit.{DecodedOutputLimit}
 use Rattle.output_budget.specs.declared.DecodedOutputLimit.TheVariants as Limit
-use Rattle.output_budget.specs.declared.Exceeded.{Exceeded}
-use Rattle.output_budget.specs.declared.Exceeded.TheVariants.{None, Recorded}
+use Rattle.output_budget.specs.declared.OutputBudgetExceeded.{OutputBudgetExceeded}
 use Rattle.output_budget.specs.Told.{Told}
 use Rattle.output_budget.specs.Budget.{limit_of}
-use Rattle.output_pending.specs.declared.DecoderReport.{DecoderReport}
-use Rattle.output_pending.specs.declared.DecoderReport.TheVariants.{Failed, Decoded}
 
 -- word i of an array
 abbrev pub word : List ℕ → ℕ → ℕ
 word w i = get_or w i 0
 
 -- an excess by its limit
-abbrev pub excess_of : DecodedOutputLimit → ℕ → ℕ → Exceeded
+abbrev pub excess_of : DecodedOutputLimit → ℕ → ℕ → Option OutputBudgetExceeded
 excess_of limit configured attempted =
-    Recorded (record { limit = limit; configured = configured; attempted = attempted })
+    Some (record { limit = limit; configured = configured; attempted = attempted })
 
 -- the recorded excess: 1 of the field values, 2 of the payload bytes; any other number is read as none
-abbrev pub exceeded_of : ℕ → ℕ → ℕ → Exceeded
+abbrev pub exceeded_of : ℕ → ℕ → ℕ → Option OutputBudgetExceeded
 exceeded_of which configured attempted =
     cond (eqb which 1) (excess_of Limit.FieldValues configured attempted)
     (cond (eqb which 2) (excess_of Limit.FieldPayloadBytes configured attempted)
@@ -42,9 +38,9 @@ budget_of w = record {
 }
 
 -- the words of a recorded excess: 0, 0, 0 for none
-abbrev pub words_of_exceeded : Exceeded → List ℕ
+abbrev pub words_of_exceeded : Option OutputBudgetExceeded → List ℕ
 words_of_exceeded None = 0 ∷ 0 ∷ 0 ∷ []
-words_of_exceeded (Recorded e) = limit_of e.limit ∷ e.configured ∷ e.attempted ∷ []
+words_of_exceeded (Some e) = limit_of e.limit ∷ e.configured ∷ e.attempted ∷ []
 
 -- the words of a budget
 unfoldable pub words_of : DecodedOutputBudget → List ℕ
@@ -61,12 +57,12 @@ cost_of w = record {
 }
 
 -- a preflight as it was handed over: 0 with a cost; to the budget every other number is the same refusal
-unfoldable pub preflight_by : ℕ → List ℕ → PreflightAnswer
-preflight_by number w = cond (eqb number 0) (Preflight.Valid (cost_of w)) (Preflight.Refused Refusal.Invalid)
+unfoldable pub preflight_by : ℕ → List ℕ → Result PendingOutputPreflight Refusal
+preflight_by number w = cond (eqb number 0) (Ok (cost_of w)) (Err Invalid)
 
 -- a decoder's report: 0 is failure, and the words are not read
-unfoldable pub report_by : ℕ → List ℕ → DecoderReport
-report_by success w = cond (eqb success 0) Failed (Decoded (cost_of w))
+unfoldable pub report_by : ℕ → List ℕ → Option PendingOutputPreflight
+report_by success w = cond (eqb success 0) None (Some (cost_of w))
 
 -- the values of an answer stand where there are any; else the words stay
 abbrev pub written_over : List ℕ → List ℕ → List ℕ

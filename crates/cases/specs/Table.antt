@@ -1,6 +1,7 @@
 -- Document 01's cases marked P, in one table, proved together by computation.
 use Rattle.std.specs.Prelude.{Some, None}
 use Rattle.std.specs.Prelude.{◌≡◌, refl, List, [], ◌∷◌, ◌++◌, map, ℕ, replicate}
+use Rattle.std.specs.Prelude as Std
 use Rattle.wire.specs.declared.Reading.TheVariants.{V9Fixed, IpfixFixed, IpfixVariable}
 use Rattle.wire.specs.Size.{least_size}
 use Rattle.wire.specs.Padding.{is_complete}
@@ -8,7 +9,6 @@ use Rattle.output_fields.specs.Field.{variable_field, field_of}
 use Rattle.output_scan.specs.Scan.{fields_of, record_of, records_from, figures, scan_of}
 use Rattle.output_preflight.specs.Preflight.{preflight_of}
 use Rattle.output_budget.specs.declared.DecodedOutputBudget.{DecodedOutputBudget}
-use Rattle.output_budget.specs.declared.Exceeded.TheVariants as Exceeded
 use Rattle.output_budget.specs.Budget.{reserve_told}
 use Rattle.config.specs.declared.PendingFlowsConfig.{PendingFlowsConfig}
 use Rattle.cache_model.specs.Removal.{evicted, evictions, pruned}
@@ -44,7 +44,7 @@ eight_used = record {
   max_payload_bytes = record { 0 = 100 };
   used_values = record { 0 = 8 };
   used_payload_bytes = record { 0 = 0 };
-  exceeded = Exceeded.None;
+  exceeded = Std.None;
 }
 
 -- templates 2, bodies 2, entry 10, total 16, TTL 100

@@ -1,6 +1,5 @@
 -- The calls on the use of a budget for C: what each returns, and writes into the words that it is lent.
-use Rattle.std.specs.Prelude.{Bool, cond, List, [], ◌∷◌, ℕ}
-use Rattle.output_budget.specs.declared.Exceeded.TheVariants.{None}
+use Rattle.std.specs.Prelude.{Bool, cond, List, [], ◌∷◌, ℕ, None}
 use Rattle.output_budget.specs.declared.OutputCounts.{OutputCounts}
 use Rattle.output_budget.specs.Told.{Told}
 use Rattle.output_budget.specs.Budget.{with_use, remaining_of, is_recorded, told_of_exceeded}

@@ -4,7 +4,7 @@
 
 ghost use Rattle.export_budget.specs.Budget.{ReservesIn, RollsBackIn, TellsRemaining, TellsExceeded, TakesIn};
 
-use budget_words::{export_exceeded, export_reserve, read_budget, rollback_number, write_budget};
+use budget_words::{answer_number, export_exceeded, export_reserve, read_budget, write_budget};
 use output_preflight::{FieldValues, PayloadBytes};
 
 // Reserves both counts: 0, or 23 or 24 with the excess written.
@@ -12,15 +12,11 @@ pub fn reserve(budget: &mut [u64; 7], values: u64, payload_bytes: u64, excess: &
     ensures { ReservesIn values payload_bytes result excess.old excess.new
         budget.old budget.new }
 {
-    let b = read_budget(budget);
-    let reserved = output_reserve::reserved(
-        b,
-        FieldValues(values as usize),
-        PayloadBytes(payload_bytes as usize),
-    );
-    let answer = reserved.answer;
-    let after = reserved.budget;
-    write_budget(after, budget);
+    let mut b = read_budget(budget);
+    let values = FieldValues(values as usize);
+    let payload = PayloadBytes(payload_bytes as usize);
+    let answer = output_reserve::reserve(&mut b, values, payload);
+    write_budget(b, budget);
     export_reserve(answer, excess)
 }
 
@@ -28,31 +24,22 @@ pub fn reserve(budget: &mut [u64; 7], values: u64, payload_bytes: u64, excess: &
 pub fn rollback(budget: &mut [u64; 7], values: u64, payload_bytes: u64) -> u32
     ensures { RollsBackIn values payload_bytes result budget.old budget.new }
 {
-    let b = read_budget(budget);
-    let rolled = output_rollback::rolled_back(
-        b,
-        FieldValues(values as usize),
-        PayloadBytes(payload_bytes as usize),
-    );
-    let answer = rolled.answer;
-    let after = rolled.budget;
-    let number = rollback_number(answer);
-    if number != 0 {
-        return number;
+    let mut b = read_budget(budget);
+    let values = FieldValues(values as usize);
+    let payload = PayloadBytes(payload_bytes as usize);
+    let answer = output_rollback::rollback(&mut b, values, payload);
+    if answer.is_ok() {
+        write_budget(b, budget);
     }
-    write_budget(after, budget);
-    0
+    answer_number(answer)
 }
 
 // Writes what remains of both counts. Answers 0.
 pub fn remaining(budget: &[u64; 7], counts: &mut [u64; 2]) -> u32
     ensures { TellsRemaining budget.now result counts.old counts.new }
 {
-    let b = read_budget(budget);
-    let left = b.remaining();
-    let values = left.values.0;
-    let payload = left.payload_bytes.0;
-    *counts = [values as u64, payload as u64];
+    let left = read_budget(budget).remaining();
+    *counts = [left.values.0 as u64, left.payload_bytes.0 as u64];
     0
 }
 
@@ -60,12 +47,7 @@ pub fn remaining(budget: &[u64; 7], counts: &mut [u64; 2]) -> u32
 pub fn is_exceeded(budget: &[u64; 7], answer: &mut [u64; 1]) -> u32
     ensures { TellsExceeded budget.now result answer.old answer.new }
 {
-    let b = read_budget(budget);
-    if output_excess::is_exceeded(b) {
-        *answer = [1];
-    } else {
-        *answer = [0];
-    }
+    *answer = [u64::from(output_excess::is_exceeded(read_budget(budget)))];
     0
 }
 
@@ -73,10 +55,8 @@ pub fn is_exceeded(budget: &[u64; 7], answer: &mut [u64; 1]) -> u32
 pub fn take_exceeded(budget: &mut [u64; 7], excess: &mut [u64; 3]) -> u32
     ensures { TakesIn result excess.old excess.new budget.old budget.new }
 {
-    let b = read_budget(budget);
-    let taken = output_excess::take_exceeded(b);
-    let answer = taken.answer;
-    let after = taken.budget;
-    write_budget(after, budget);
+    let mut b = read_budget(budget);
+    let answer = output_excess::take_exceeded(&mut b);
+    write_budget(b, budget);
     export_exceeded(answer, excess)
 }

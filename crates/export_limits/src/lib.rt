@@ -37,11 +37,13 @@ pub fn new(budget: &mut [u64; 7], max_values: u64, max_payload_bytes: u64) -> u3
 }
 
 // The same limits, with nothing used and nothing recorded. Answers 0.
+#[tactic(auto, unfolding(budget_words::specs::Words::budget_of))]
 pub fn reset(budget: &mut [u64; 7]) -> u32
     ensures { Resets result budget.old budget.new }
 {
-    let b = read_budget(budget);
-    write_budget(b.reset(), budget);
+    let mut b = read_budget(budget);
+    b.reset();
+    write_budget(b, budget);
     0
 }
 
@@ -49,10 +51,10 @@ pub fn reset(budget: &mut [u64; 7]) -> u32
 pub fn set_limits(budget: &mut [u64; 7], max_values: u64, max_payload_bytes: u64) -> u32
     ensures { Opens max_values max_payload_bytes result budget.new }
 {
-    let b = read_budget(budget);
+    let mut b = read_budget(budget);
     let values = max_values as usize;
     let payload = max_payload_bytes as usize;
-    let after = b.set_limits(FieldValues(values), PayloadBytes(payload));
-    write_budget(after, budget);
+    b.set_limits(FieldValues(values), PayloadBytes(payload));
+    write_budget(b, budget);
     0
 }

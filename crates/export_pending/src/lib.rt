@@ -4,7 +4,7 @@
 ghost use Rattle.export_pending.specs.Pending.{FitsWhole, FitsRemaining, MaterializesIn};
 
 use budget_words::{
-    export_materialize, fit_number, read_budget, read_preflight, read_report, write_budget,
+    answer_number, export_materialize, read_budget, read_preflight, read_report, write_budget,
 };
 
 // Whether a body can ever fit: 0, or 7 or 8.
@@ -13,7 +13,7 @@ pub fn validate_pending_full_budget(budget: &[u64; 7], number: u32, cost: &[u64;
 {
     let b = read_budget(budget);
     let preflight = read_preflight(number, cost);
-    fit_number(output_pending::validate_pending_full_budget(b, preflight))
+    answer_number(output_pending::validate_pending_full_budget(b, preflight))
 }
 
 // Whether a body fits what remains: 0, or 7, 8 or 22.
@@ -22,7 +22,7 @@ pub fn validate_pending_remaining(budget: &[u64; 7], number: u32, cost: &[u64; 3
 {
     let b = read_budget(budget);
     let preflight = read_preflight(number, cost);
-    fit_number(output_pending::validate_pending_remaining(b, preflight))
+    answer_number(output_pending::validate_pending_remaining(b, preflight))
 }
 
 // Commits the cost where the body fits and the report agrees: 0 with the remainder's length written, or 7, 8 or 22.
@@ -37,16 +37,12 @@ pub fn materialize_pending(
     ensures { MaterializesIn number cost.now success reported.now result
         remainder.old remainder.new budget.old budget.new }
 {
-    let b = read_budget(budget);
+    let mut b = read_budget(budget);
     let preflight = read_preflight(number, cost);
     let report = read_report(success, reported);
-    let done = output_pending::materialized(b, preflight, report);
-    let answer = done.answer;
-    let after = done.budget;
-    let number = export_materialize(answer, remainder);
-    if number != 0 {
-        return number;
+    let answer = output_pending::materialize_pending(&mut b, preflight, report);
+    if answer.is_ok() {
+        write_budget(b, budget);
     }
-    write_budget(after, budget);
-    0
+    export_materialize(answer, remainder)
 }

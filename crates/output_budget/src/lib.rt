@@ -27,7 +27,7 @@ pub struct AboveUse;
 
 // Both limits, both counts in use, and the first excess since the budget was opened or rolled back. The use may be
 // above a limit.
-#[derive(Clone, Copy)]
+#[derive(Clone, Copy, Debug, PartialEq, Eq)]
 pub struct DecodedOutputBudget {
     pub max_values: FieldValues,
     pub max_payload_bytes: PayloadBytes,
@@ -37,7 +37,7 @@ pub struct DecodedOutputBudget {
 }
 
 // A pair of counts: those in use, a checkpoint of them, or what remains.
-#[derive(Clone, Copy)]
+#[derive(Clone, Copy, Debug, PartialEq, Eq)]
 pub struct OutputCounts {
     pub values: FieldValues,
     pub payload_bytes: PayloadBytes,

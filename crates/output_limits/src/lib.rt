@@ -18,7 +18,7 @@ pub const DEFAULT_MAX_DECODED_FIELD_VALUES_PER_MESSAGE: usize = 65536;
 pub const DEFAULT_MAX_DECODED_FIELD_PAYLOAD_BYTES_PER_MESSAGE: usize = 4194304;
 
 // The limits of one message: records of a flow set, field values and payload bytes. `new` makes none with a 0.
-#[derive(Clone, Copy)]
+#[derive(Clone, Copy, Debug, PartialEq, Eq)]
 pub struct DecodedOutputLimits {
     pub max_records: usize,
     pub max_field_values: FieldValues,

@@ -1,4 +1,2 @@
-pub mod Fits
-pub mod Reports
 pub mod Materials
 pub mod Refusals

@@ -1,23 +1,23 @@
--- A refused call leaves the use and the limits as they were. (The fit tests return no budget.) Assumes nothing.
+-- A refused call leaves the use and the limits as they were. (The fit tests change none.) Assumes nothing.
 use mathlib.Core.Path.{◌≡◌, refl}
 use mathlib.Core.Bool.{Bool, true, false, cond}
 use borrow.Author.Tests.{ne_eqb}
+use Rattle.std.proofs.Common.{Option, Result, Ok, Err}
 use Rattle.output_preflight.specs.declared.FieldValues.{FieldValues}
 use Rattle.output_preflight.specs.declared.PayloadBytes.{PayloadBytes}
-use Rattle.output_preflight.specs.declared.PreflightAnswer.{PreflightAnswer}
-use Rattle.output_preflight.specs.declared.PreflightAnswer.TheVariants as Preflight
+use Rattle.output_preflight.specs.declared.PendingOutputPreflight.{PendingOutputPreflight}
+use Rattle.output_preflight.specs.declared.Refusal.{Refusal}
 use Rattle.output_budget.specs.declared.DecodedOutputBudget.{DecodedOutputBudget}
-use Rattle.output_pending.specs.declared.DecoderReport.{DecoderReport}
 use Rattle.output_budget.specs.Told.{Told, done}
 use Rattle.output_budget.specs.Budget.{use_of, whole_of, passes_values, passes_payload}
 use Rattle.output_budget.specs.Budget.{reserve_told, reserve_budget, rollback_told, rollback_budget}
 use Rattle.output_pending.specs.Pending.{materialize_told, materialize_budget}
 
--- the calls that return a budget and can be refused
+-- the calls that change a budget and can be refused
 pub data Call : Type 0 where
   reserve : FieldValues → PayloadBytes → Call
   rollback : FieldValues → PayloadBytes → Call
-  materialize : PreflightAnswer → DecoderReport → Call
+  materialize : Result PendingOutputPreflight Refusal → Option PendingOutputPreflight → Call
 
 -- what a call on a budget tells
 abbrev pub told : DecodedOutputBudget → Call → Told
@@ -56,6 +56,6 @@ refused_keeps b (reserve v p) h =
     (record { limits = refl; in_use = refl })
     h
 refused_keeps b (rollback v p) h = rw (ne_eqb (rollback_told b v p).number 0 h) (same b)
-refused_keeps b (materialize (Preflight.Refused r) d) h = same b
-refused_keeps b (materialize (Preflight.Valid cost) d) h =
-    rw (ne_eqb (materialize_told b (Preflight.Valid cost) d).number 0 h) (same b)
+refused_keeps b (materialize (Err r) d) h = same b
+refused_keeps b (materialize (Ok cost) d) h =
+    rw (ne_eqb (materialize_told b (Ok cost) d).number 0 h) (same b)

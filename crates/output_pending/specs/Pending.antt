@@ -1,18 +1,12 @@
 -- A queued body against the budget (document 01, numbers 7, 8 and 22).
-use Rattle.std.specs.Prelude.{◌≡◌, Bool, false, cond, ◌&&◌, ◌||◌, [], ◌∷◌, ltb, eqb}
+use Rattle.std.specs.Prelude.{◌≡◌, Bool, false, cond, ◌&&◌, ◌||◌, [], ◌∷◌, ℕ, ltb, eqb}
+use Rattle.std.specs.Prelude.{Option, Some, None, Result, Ok, Err}
 use Rattle.output_preflight.specs.declared.PendingOutputPreflight.{PendingOutputPreflight}
-use Rattle.output_preflight.specs.declared.PreflightAnswer.{PreflightAnswer}
-use Rattle.output_preflight.specs.declared.PreflightAnswer.TheVariants as Preflight
+use Rattle.output_preflight.specs.declared.Refusal.{Refusal}
 use Rattle.output_budget.specs.declared.DecodedOutputBudget.{DecodedOutputBudget}
 use Rattle.output_budget.specs.declared.OutputCounts.{OutputCounts}
-use Rattle.output_pending.specs.declared.DecoderReport.{DecoderReport}
-use Rattle.output_pending.specs.declared.DecoderReport.TheVariants.{Failed, Decoded}
 use Rattle.output_pending.specs.declared.PendingOutputError.{PendingOutputError}
 use Rattle.output_pending.specs.declared.PendingOutputError.TheVariants as Error
-use Rattle.output_pending.specs.declared.FitAnswer.{FitAnswer}
-use Rattle.output_pending.specs.declared.FitAnswer.TheVariants as Fit
-use Rattle.output_pending.specs.declared.MaterializeAnswer.{MaterializeAnswer}
-use Rattle.output_pending.specs.declared.MaterializeAnswer.TheVariants as Materialize
 use Rattle.output_budget.specs.Told.{Told, done, refusal}
 use Rattle.output_budget.specs.Budget.{whole_of, remaining_of, grown}
 
@@ -23,9 +17,9 @@ above cost counts =
     || ltb counts.payload_bytes.0 cost.field_payload_bytes.0
 
 -- the decoder reports success, and the cost and the remainder of the preflight
-abbrev pub agrees : PendingOutputPreflight → DecoderReport → Bool
-agrees cost Failed = false
-agrees cost (Decoded got) =
+abbrev pub agrees : PendingOutputPreflight → Option PendingOutputPreflight → Bool
+agrees cost None = false
+agrees cost (Some got) =
     eqb got.field_values.0 cost.field_values.0
     && eqb got.field_payload_bytes.0 cost.field_payload_bytes.0
     && eqb got.remainder_len cost.remainder_len
@@ -37,48 +31,50 @@ told_of_error Error.NeverFits = refusal 8
 told_of_error Error.TemporarilyDoesNotFit = refusal 22
 
 -- what each answer of the fit tests tells
-abbrev pub told_of_fit : FitAnswer → Told
-told_of_fit Fit.Fits = done
-told_of_fit (Fit.Refused e) = told_of_error e
+abbrev pub told_of_fit : Result (Unit {0}) PendingOutputError → Told
+told_of_fit (Ok u) = done
+told_of_fit (Err e) = told_of_error e
 
 -- what each answer of `materialize_pending` tells: the remainder's length, or a refusal
-abbrev pub told_of_materialize : MaterializeAnswer → Told
-told_of_materialize (Materialize.Materialized n) = record { number = 0; values = n ∷ [] }
-told_of_materialize (Materialize.Refused e) = told_of_error e
+abbrev pub told_of_materialize : Result ℕ PendingOutputError → Told
+told_of_materialize (Ok n) = record { number = 0; values = n ∷ [] }
+told_of_materialize (Err e) = told_of_error e
 
 -- 7: the preflight refused the body, by whatever number; 8: the cost is above the whole budget
-unfoldable pub full_budget_told : DecodedOutputBudget → PreflightAnswer → Told
-full_budget_told b (Preflight.Refused r) = refusal 7
-full_budget_told b (Preflight.Valid cost) = cond (above cost (whole_of b)) (refusal 8) done
+unfoldable pub full_budget_told : DecodedOutputBudget → Result PendingOutputPreflight Refusal → Told
+full_budget_told b (Err r) = refusal 7
+full_budget_told b (Ok cost) = cond (above cost (whole_of b)) (refusal 8) done
 
 -- 7 and 8 likewise, then 22: the cost is above what remains
-unfoldable pub remaining_told : DecodedOutputBudget → PreflightAnswer → Told
-remaining_told b (Preflight.Refused r) = refusal 7
-remaining_told b (Preflight.Valid cost) =
+unfoldable pub remaining_told : DecodedOutputBudget → Result PendingOutputPreflight Refusal → Told
+remaining_told b (Err r) = refusal 7
+remaining_told b (Ok cost) =
     cond (above cost (whole_of b)) (refusal 8)
     (cond (above cost (remaining_of b)) (refusal 22)
     done)
 
 -- 7, 8 and 22 likewise, then 7: the decoder's report does not agree
-unfoldable pub materialize_told : DecodedOutputBudget → PreflightAnswer → DecoderReport → Told
-materialize_told b (Preflight.Refused r) report = refusal 7
-materialize_told b (Preflight.Valid cost) report =
+unfoldable pub materialize_told :
+    DecodedOutputBudget → Result PendingOutputPreflight Refusal → Option PendingOutputPreflight → Told
+materialize_told b (Err r) report = refusal 7
+materialize_told b (Ok cost) report =
     cond (above cost (whole_of b)) (refusal 8)
     (cond (above cost (remaining_of b)) (refusal 22)
     (cond (agrees cost report) (record { number = 0; values = cost.remainder_len ∷ [] })
     (refusal 7)))
 
 -- the budget after `materialize_pending`: unless it is refused, the use has grown by the cost
-unfoldable pub materialize_budget : DecodedOutputBudget → PreflightAnswer → DecoderReport → DecodedOutputBudget
-materialize_budget b (Preflight.Refused r) report = b
-materialize_budget b (Preflight.Valid cost) report =
-    cond (eqb (materialize_told b (Preflight.Valid cost) report).number 0)
+unfoldable pub materialize_budget :
+    DecodedOutputBudget → Result PendingOutputPreflight Refusal → Option PendingOutputPreflight → DecodedOutputBudget
+materialize_budget b (Err r) report = b
+materialize_budget b (Ok cost) report =
+    cond (eqb (materialize_told b (Ok cost) report).number 0)
     (grown b cost.field_values cost.field_payload_bytes)
     b
 
 -- `materialize_pending` of a body by its preflight f and the decoder's report d
 pub record Materializes
-    (b : DecodedOutputBudget) (f : PreflightAnswer) (d : DecoderReport) (a : MaterializeAnswer)
-    (b' : DecodedOutputBudget) : Type 0 where
+    (b : DecodedOutputBudget) (f : Result PendingOutputPreflight Refusal) (d : Option PendingOutputPreflight)
+    (a : Result ℕ PendingOutputError) (b' : DecodedOutputBudget) : Type 0 where
   pub answer : told_of_materialize a ≡ materialize_told b f d
   pub budget : b' ≡ materialize_budget b f d
