@@ -58,7 +58,10 @@ fn whole(b: DecodedOutputBudget) -> OutputCounts
 }
 
 // Whether a cost can ever fit.
-fn fits_whole(b: DecodedOutputBudget, cost: PendingOutputPreflight) -> Result<(), PendingOutputError>
+fn fits_whole(
+    b: DecodedOutputBudget,
+    cost: PendingOutputPreflight,
+) -> Result<(), PendingOutputError>
     ensures { result ≡ cond (above cost (whole_of b)) (Err PendingOutputError.NeverFits) (Ok tt) }
 {
     if is_above(cost, whole(b)) {

@@ -1,264 +1,38 @@
 // The calls of a recorded list, by their numbers there.
-ghost use Rattle.std.specs.Prelude.{◌≡◌};
-ghost use Rattle.output_budget.specs.Budget.{limit_of};
+#![tactic(auto)]
 
-use output_budget::{
-    DecodedOutputBudget, DecodedOutputLimit, Exceeded, OutputBudgetExceeded, ReserveAnswer,
-    RollbackAnswer,
-};
+use budget_words::{answer_number, export_exceeded, export_materialize, export_reserve};
+use output_budget::DecodedOutputBudget;
 use output_excess::{is_exceeded, take_exceeded};
-use output_lent::{materialize_by_loan, reserve_by_loan, rollback_by_loan};
-use output_limits::{DecodedOutputLimits, LimitsAnswer, LimitsRefusal};
+use output_limits::DecodedOutputLimits;
 use output_pending::{
-    DecoderReport, FitAnswer, MaterializeAnswer, PendingOutputError, materialized,
-    validate_pending_full_budget, validate_pending_remaining,
+    materialize_pending, validate_pending_full_budget, validate_pending_remaining,
 };
-use output_preflight::{
-    FieldValues, PayloadBytes, PendingOutputPreflight, PreflightAnswer, Refusal,
-};
-use output_reserve::reserved;
-use output_rollback::rolled_back;
+use output_preflight::{FieldValues, PayloadBytes, PendingOutputPreflight, Refusal};
+use output_reserve::reserve;
+use output_rollback::rollback;
 
-// An answer as document 01's number and values, whether the lent form answered the same, and the budget after it.
+// An answer as document 01's number, 0 where the call was done, and its values.
 #[derive(Clone, Copy)]
-pub struct Answered {
-    pub number: u64,
-    pub x1: u64,
-    pub x2: u64,
-    pub x3: u64,
-    pub forms_agree: bool,
-    pub budget: DecodedOutputBudget,
+pub struct Told {
+    pub number: u32,
+    pub values: [u64; 3],
 }
 
-// An answer with two values.
-fn told(number: u64, x1: u64, x2: u64, budget: DecodedOutputBudget) -> Answered {
-    Answered {
-        number,
-        x1,
-        x2,
-        x3: 0,
-        forms_agree: true,
-        budget,
-    }
+// A call that was done, with its values.
+fn done(values: [u64; 3]) -> Told {
+    Told { number: 0, values }
 }
 
-// A limit as a word.
-pub fn limit_word(limit: DecodedOutputLimit) -> u64
-    ensures { result ≡ limit_of limit }
+// An answer that has no values.
+fn numbered<E>(answer: Result<(), E>) -> Told
+where
+    u32: From<E>,
 {
-    match limit {
-        DecodedOutputLimit::FieldValues => 1,
-        DecodedOutputLimit::FieldPayloadBytes => 2,
+    Told {
+        number: answer_number(answer),
+        values: [0; 3],
     }
-}
-
-// The number of passing a limit.
-fn limit_number(limit: DecodedOutputLimit) -> u64 {
-    match limit {
-        DecodedOutputLimit::FieldValues => 23,
-        DecodedOutputLimit::FieldPayloadBytes => 24,
-    }
-}
-
-// An answer with an excess.
-fn told_excess(number: u64, excess: OutputBudgetExceeded, budget: DecodedOutputBudget) -> Answered {
-    let limit = excess.limit;
-    Answered {
-        number,
-        x1: limit_word(limit),
-        x2: excess.configured as u64,
-        x3: excess.attempted as u64,
-        forms_agree: true,
-        budget,
-    }
-}
-
-fn told_reserve(answer: ReserveAnswer, budget: DecodedOutputBudget) -> Answered {
-    match answer {
-        ReserveAnswer::Reserved => told(0, 0, 0, budget),
-        ReserveAnswer::Exceeded(excess) => {
-            let limit = excess.limit;
-            told_excess(limit_number(limit), excess, budget)
-        }
-    }
-}
-
-fn told_rollback(answer: RollbackAnswer, budget: DecodedOutputBudget) -> Answered {
-    match answer {
-        RollbackAnswer::RolledBack => told(0, 0, 0, budget),
-        RollbackAnswer::AboveUse => told(26, 0, 0, budget),
-    }
-}
-
-fn error_number(error: PendingOutputError) -> u64 {
-    match error {
-        PendingOutputError::Invalid => 7,
-        PendingOutputError::NeverFits => 8,
-        PendingOutputError::TemporarilyDoesNotFit => 22,
-    }
-}
-
-fn told_fit(answer: FitAnswer, budget: DecodedOutputBudget) -> Answered {
-    match answer {
-        FitAnswer::Fits => told(0, 0, 0, budget),
-        FitAnswer::Refused(error) => told(error_number(error), 0, 0, budget),
-    }
-}
-
-fn told_materialize(answer: MaterializeAnswer, budget: DecodedOutputBudget) -> Answered {
-    match answer {
-        MaterializeAnswer::Materialized(left) => told(0, left as u64, 0, budget),
-        MaterializeAnswer::Refused(error) => told(error_number(error), 0, 0, budget),
-    }
-}
-
-fn told_limits(answer: LimitsAnswer, budget: DecodedOutputBudget) -> Answered {
-    match answer {
-        LimitsAnswer::Accepted(_) => told(0, 0, 0, budget),
-        LimitsAnswer::Refused(refusal) => told(limits_number(refusal), 0, 0, budget),
-    }
-}
-
-fn limits_number(refusal: LimitsRefusal) -> u64 {
-    match refusal {
-        LimitsRefusal::ZeroRecords => 9,
-        LimitsRefusal::ZeroFieldValues => 10,
-        LimitsRefusal::ZeroPayloadBytes => 11,
-    }
-}
-
-fn told_exceeded(exceeded: Exceeded, budget: DecodedOutputBudget) -> Answered {
-    match exceeded {
-        Exceeded::None => told(0, 0, 0, budget),
-        Exceeded::Recorded(excess) => told_excess(0, excess, budget),
-    }
-}
-
-// Whether two excesses are the same.
-fn same_excess(a: OutputBudgetExceeded, b: OutputBudgetExceeded) -> bool {
-    let limit_a = a.limit;
-    let limit_b = b.limit;
-    if limit_word(limit_a) != limit_word(limit_b) {
-        return false;
-    }
-    if a.configured != b.configured {
-        return false;
-    }
-    a.attempted == b.attempted
-}
-
-// Whether two records are the same: none, or the same excess.
-fn same_exceeded(a: Exceeded, b: Exceeded) -> bool {
-    match a {
-        Exceeded::None => match b {
-            Exceeded::None => true,
-            Exceeded::Recorded(_) => false,
-        },
-        Exceeded::Recorded(excess_a) => match b {
-            Exceeded::None => false,
-            Exceeded::Recorded(excess_b) => same_excess(excess_a, excess_b),
-        },
-    }
-}
-
-// Whether two budgets are the same: limits, use and record.
-fn same_budgets(a: DecodedOutputBudget, b: DecodedOutputBudget) -> bool {
-    if a.max_values.0 != b.max_values.0 {
-        return false;
-    }
-    if a.max_payload_bytes.0 != b.max_payload_bytes.0 {
-        return false;
-    }
-    if a.used_values.0 != b.used_values.0 {
-        return false;
-    }
-    if a.used_payload_bytes.0 != b.used_payload_bytes.0 {
-        return false;
-    }
-    let exceeded_a = a.exceeded;
-    let exceeded_b = b.exceeded;
-    same_exceeded(exceeded_a, exceeded_b)
-}
-
-// Whether two answers and the budgets after them are the same.
-fn same(a: Answered, b: Answered) -> bool {
-    if a.number != b.number {
-        return false;
-    }
-    if a.x1 != b.x1 {
-        return false;
-    }
-    if a.x2 != b.x2 {
-        return false;
-    }
-    if a.x3 != b.x3 {
-        return false;
-    }
-    let budget_a = a.budget;
-    let budget_b = b.budget;
-    same_budgets(budget_a, budget_b)
-}
-
-// The answer by value, noting whether the lent form answered the same.
-fn both(by_value: Answered, by_loan: Answered) -> Answered {
-    let agree = same(by_value, by_loan);
-    let budget = by_value.budget;
-    Answered {
-        number: by_value.number,
-        x1: by_value.x1,
-        x2: by_value.x2,
-        x3: by_value.x3,
-        forms_agree: agree,
-        budget,
-    }
-}
-
-fn run_reserve(b: DecodedOutputBudget, values: u64, payload: u64) -> Answered {
-    let v = FieldValues(values as usize);
-    let p = PayloadBytes(payload as usize);
-    let by_value = reserved(b, v, p);
-    let by_loan = reserve_by_loan(b, v, p);
-    let a = by_value.answer;
-    let after = by_value.budget;
-    let a_lent = by_loan.answer;
-    let after_lent = by_loan.budget;
-    both(told_reserve(a, after), told_reserve(a_lent, after_lent))
-}
-
-fn run_rollback(b: DecodedOutputBudget, values: u64, payload: u64) -> Answered {
-    let v = FieldValues(values as usize);
-    let p = PayloadBytes(payload as usize);
-    let by_value = rolled_back(b, v, p);
-    let by_loan = rollback_by_loan(b, v, p);
-    let a = by_value.answer;
-    let after = by_value.budget;
-    let a_lent = by_loan.answer;
-    let after_lent = by_loan.budget;
-    both(told_rollback(a, after), told_rollback(a_lent, after_lent))
-}
-
-fn run_materialize(
-    b: DecodedOutputBudget,
-    preflight: PreflightAnswer,
-    report: DecoderReport,
-) -> Answered {
-    let by_value = materialized(b, preflight, report);
-    let by_loan = materialize_by_loan(b, preflight, report);
-    let a = by_value.answer;
-    let after = by_value.budget;
-    let a_lent = by_loan.answer;
-    let after_lent = by_loan.budget;
-    both(
-        told_materialize(a, after),
-        told_materialize(a_lent, after_lent),
-    )
-}
-
-fn run_take(b: DecodedOutputBudget) -> Answered {
-    let taken = take_exceeded(b);
-    let answer = taken.answer;
-    let after = taken.budget;
-    told_exceeded(answer, after)
 }
 
 // A cost of a row.
@@ -271,87 +45,84 @@ fn cost_of(values: u64, payload: u64, remainder: u64) -> PendingOutputPreflight 
 }
 
 // A preflight of a row: 0 with a cost, or the number of a refusal.
-fn preflight_of(number: u64, values: u64, payload: u64, remainder: u64) -> PreflightAnswer {
-    match number {
-        0 => PreflightAnswer::Valid(cost_of(values, payload, remainder)),
-        9 => PreflightAnswer::Refused(Refusal::ZeroRecordLimit),
-        12 => PreflightAnswer::Refused(Refusal::Oversized),
-        _ => PreflightAnswer::Refused(Refusal::Invalid),
+fn preflight_of(row: &[u64; 19]) -> Result<PendingOutputPreflight, Refusal> {
+    match row[1] {
+        0 => Ok(cost_of(row[2], row[3], row[4])),
+        9 => Err(Refusal::ZeroRecordLimit),
+        12 => Err(Refusal::Oversized),
+        _ => Err(Refusal::Invalid),
     }
-}
-
-// One more, up to 2^64 - 1.
-fn more(n: u64) -> u64 {
-    if n < 18446744073709551615 { n + 1 } else { n }
-}
-
-// One less, down to 0.
-fn less(n: u64) -> u64 {
-    if 0 < n { n - 1 } else { n }
 }
 
 // A report of a row: 0 failure, 1 the preflight's figures, 2 to 4 one of them one more, 5 to 7 one less.
-fn report_of(kind: u64, values: u64, payload: u64, remainder: u64) -> DecoderReport {
-    match kind {
-        0 => DecoderReport::Failed,
-        2 => DecoderReport::Decoded(cost_of(more(values), payload, remainder)),
-        3 => DecoderReport::Decoded(cost_of(values, more(payload), remainder)),
-        4 => DecoderReport::Decoded(cost_of(values, payload, more(remainder))),
-        5 => DecoderReport::Decoded(cost_of(less(values), payload, remainder)),
-        6 => DecoderReport::Decoded(cost_of(values, less(payload), remainder)),
-        7 => DecoderReport::Decoded(cost_of(values, payload, less(remainder))),
-        _ => DecoderReport::Decoded(cost_of(values, payload, remainder)),
-    }
-}
-
-fn bit(b: bool) -> u64 {
-    if b { 1 } else { 0 }
+fn report_of(row: &[u64; 19]) -> Option<PendingOutputPreflight> {
+    let (values, payload, remainder) = (row[2], row[3], row[4]);
+    Some(match row[5] {
+        0 => return None,
+        2 => cost_of(values.saturating_add(1), payload, remainder),
+        3 => cost_of(values, payload.saturating_add(1), remainder),
+        4 => cost_of(values, payload, remainder.saturating_add(1)),
+        5 => cost_of(values.saturating_sub(1), payload, remainder),
+        6 => cost_of(values, payload.saturating_sub(1), remainder),
+        7 => cost_of(values, payload, remainder.saturating_sub(1)),
+        _ => cost_of(values, payload, remainder),
+    })
 }
 
 // The calls on the counts alone.
-fn run_counts(row: [u64; 19], b: DecodedOutputBudget) -> Answered {
-    let call = row[0];
-    match call {
-        0 => told(
-            0,
-            0,
-            0,
-            DecodedOutputBudget::new(FieldValues(row[1] as usize), PayloadBytes(row[2] as usize)),
-        ),
-        1 => told(0, 0, 0, b.reset()),
-        2 => told(
-            0,
-            0,
-            0,
-            b.set_limits(FieldValues(row[1] as usize), PayloadBytes(row[2] as usize)),
-        ),
-        3 => run_reserve(b, row[1], row[2]),
-        4 => run_rollback(b, row[1], row[2]),
-        5 => run_take(b),
+fn run_counts(row: &[u64; 19], b: &mut DecodedOutputBudget) -> Told {
+    let values = FieldValues(row[1] as usize);
+    let payload = PayloadBytes(row[2] as usize);
+    match row[0] {
+        0 => *b = DecodedOutputBudget::new(values, payload),
+        1 => b.reset(),
+        2 => b.set_limits(values, payload),
+        3 => {
+            let mut excess = [0; 3];
+            let number = export_reserve(reserve(b, values, payload), &mut excess);
+            return Told {
+                number,
+                values: excess,
+            };
+        }
+        4 => return numbered(rollback(b, values, payload)),
+        5 => {
+            let mut excess = [0; 3];
+            let number = export_exceeded(take_exceeded(b), &mut excess);
+            return Told {
+                number,
+                values: excess,
+            };
+        }
         9 => {
             let left = b.remaining();
-            told(0, left.values.0 as u64, left.payload_bytes.0 as u64, b)
+            return done([left.values.0 as u64, left.payload_bytes.0 as u64, 0]);
         }
-        _ => told(0, bit(is_exceeded(b)), 0, b),
+        _ => return done([u64::from(is_exceeded(*b)), 0, 0]),
     }
+    done([0; 3])
 }
 
-// Runs the call of a row.
-pub fn run_call(row: [u64; 19], b: DecodedOutputBudget) -> Answered {
-    let call = row[0];
-    let preflight = preflight_of(row[1], row[2], row[3], row[4]);
-    match call {
-        6 => told_fit(validate_pending_full_budget(b, preflight), b),
-        7 => told_fit(validate_pending_remaining(b, preflight), b),
-        8 => run_materialize(b, preflight, report_of(row[5], row[2], row[3], row[4])),
-        11 => told_limits(
-            DecodedOutputLimits::new(
-                row[1] as usize,
-                FieldValues(row[2] as usize),
-                PayloadBytes(row[3] as usize),
-            ),
-            b,
-        ),
+// Runs the call of a row on the budget.
+pub fn run_call(row: &[u64; 19], b: &mut DecodedOutputBudget) -> Told {
+    let preflight = preflight_of(row);
+    match row[0] {
+        6 => numbered(validate_pending_full_budget(*b, preflight)),
+        7 => numbered(validate_pending_remaining(*b, preflight)),
+        8 => {
+            let mut left = [0];
+            let answer = materialize_pending(b, preflight, report_of(row));
+            let number = export_materialize(answer, &mut left);
+            Told {
+                number,
+                values: [left[0], 0, 0],
+            }
+        }
+        11 => {
+            let values = FieldValues(row[2] as usize);
+            let payload = PayloadBytes(row[3] as usize);
+            numbered(DecodedOutputLimits::new(row[1] as usize, values, payload).map(|_| ()))
+        }
         _ => run_counts(row, b),
     }
 }
