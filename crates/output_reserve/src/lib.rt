@@ -1,7 +1,7 @@
 // Reserving two counts of a budget: each sum against its limit, and the first excess.
 #![tactic(auto)]
 
-ghost use Rattle.std.specs.Prelude.{◌≡◌, ◌+◌, ltb};
+ghost use Rattle.std.specs.Prelude.{◌≡◌, ◌+◌, ltb, cond};
 ghost use Rattle.output_budget.specs.Budget.{Reserves, attempted_sum, first_excess, recorded};
 
 use output_budget::{DecodedOutputBudget, DecodedOutputLimit, OutputBudgetExceeded};
@@ -31,6 +31,23 @@ fn first(
     kept.or(Some(excess))
 }
 
+// The excess of one count, where its sum passes the limit.
+fn excess_of(
+    limit: DecodedOutputLimit,
+    max: usize,
+    used: usize,
+    more: usize,
+) -> Option<OutputBudgetExceeded>
+    ensures { result ≡ cond (ltb max (used + more))
+        (Some (record { limit = limit; configured = max; attempted = attempted_sum used more })) None }
+{
+    passes(max, used, more).then(|| OutputBudgetExceeded {
+        limit,
+        configured: max,
+        attempted: attempted(used, more),
+    })
+}
+
 // A refused reservation: the use stays as it was.
 fn exceed(
     b: &mut DecodedOutputBudget,
@@ -52,29 +69,13 @@ pub fn reserve(
 ) -> Result<(), OutputBudgetExceeded>
     ensures { Reserves b.old values payload result b.new }
 {
-    let max_values = b.max_values.0;
-    let used_values = b.used_values.0;
-    let max_payload_bytes = b.max_payload_bytes.0;
-    let used_payload_bytes = b.used_payload_bytes.0;
-    if passes(max_values, used_values, values.0) {
-        return exceed(
-            b,
-            OutputBudgetExceeded {
-                limit: DecodedOutputLimit::FieldValues,
-                configured: max_values,
-                attempted: attempted(used_values, values.0),
-            },
-        );
+    let (max, used) = (b.max_values.0, b.used_values.0);
+    if let Some(excess) = excess_of(DecodedOutputLimit::FieldValues, max, used, values.0) {
+        return exceed(b, excess);
     }
-    if passes(max_payload_bytes, used_payload_bytes, payload.0) {
-        return exceed(
-            b,
-            OutputBudgetExceeded {
-                limit: DecodedOutputLimit::FieldPayloadBytes,
-                configured: max_payload_bytes,
-                attempted: attempted(used_payload_bytes, payload.0),
-            },
-        );
+    let (max, used) = (b.max_payload_bytes.0, b.used_payload_bytes.0);
+    if let Some(excess) = excess_of(DecodedOutputLimit::FieldPayloadBytes, max, used, payload.0) {
+        return exceed(b, excess);
     }
     b.grow(values, payload);
     Ok(())
