@@ -63,6 +63,7 @@ fn run_row(rt: &impl Print, text: &[u8], at: usize, replay: &mut Replay) -> usiz
 // Runs the rows of a text.
 fn run_rows(rt: &impl Print, text: &[u8], replay: &mut Replay) {
     let mut at = 0;
+    // no iterator: a row ends where its last number does, which only reading it tells
     while at < text.len() {
         let start = first_digit(text, at);
         if start == text.len() {
