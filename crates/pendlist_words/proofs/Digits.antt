@@ -3,16 +3,18 @@
 use mathlib.Core.Path.{◌≡◌, refl, sym, ◌∙◌}
 use mathlib.Core.Bool.{Bool, true, false, cond}
 use mathlib.Core.List.{List, [], ◌∷◌}
-use Prim.Native.Nat.{ℕ, ◌+◌, ◌*◌, ◌-◌, ◌≤◌, ◌<◌}
+use Prim.Native.Nat.{ℕ, suc, ◌+◌, ◌*◌, ◌-◌, ◌≤◌, ◌<◌}
 use native.Mathlib.Numerals.{add-one}
 use native.Mathlib.Omega.{arith}
 use lib.ListN.{length, get_or, drop, drop_of_length-le}
 use lib.Seq.{drop-cons}
-use lib.Dec.{leb}
-use borrow.Author.Tests.{le-leb, lt-leb, leb-true, leb-false}
-use Rattle.pendlist_words.specs.declared.NumberFound.{NumberFound}
-use Rattle.pendlist_words.specs.declared.NumberFound.TheVariants.{At, Nothing}
-use Rattle.pendlist_words.specs.Words.{is_digit, all_digits, value_from, most, number_from, number_of}
+use lib.Dec.{leb, eqb}
+use Rattle.std.specs.Prelude.{◌&&◌}
+use Rattle.std.specs.Str.{bytes_eq}
+use Rattle.std.specs.Char.{is_ascii_digit}
+use borrow.Author.Tests.{le-leb, lt-leb, leb-true, leb-false, ne_eqb}
+use Rattle.std.specs.Prelude.{Option, Some, None, SomeIff, ◌^◌}
+use Rattle.pendlist_words.specs.Words.{is_digit, all_digits, value_from, most, number_from, number_of, is_byte}
 use Rattle.pendlist_words.specs.Digits.{with_digit}
 
 -- the number with one digit more
@@ -25,71 +27,76 @@ value_grows v [] = omega arith
 value_grows v (b ∷ w) = omega (arith, value_grows (longer_by v b) w)
 
 -- a number that is too large stays so
-too_large : (v : ℕ) (w : List ℕ) → most < v → number_from v w ≡ Nothing
+too_large : (v : ℕ) (w : List ℕ) → most < v → number_from v w ≡ None
 unfolding number_from
 too_large v w h = rw (lt-leb (value_from v w) most (omega (arith, value_grows v w))) (either (all_digits w))
   where
-    either : (q : Bool) → cond q Nothing Nothing ≡ Nothing
+    either : (q : Bool) → ◌≡◌ {A = Option ℕ} (cond q None None) None
     either true = refl
     either false = refl
 
 -- what the digits behind a number that was read say
-abbrev read_on : NumberFound → List ℕ → NumberFound
-read_on (At n) w = number_from n w
-read_on Nothing w = Nothing
+abbrev read_on : Option ℕ → List ℕ → Option ℕ
+read_on (Some n) w = number_from n w
+read_on None w = None
 
 digit_read : (v b : ℕ) (w : List ℕ) → number_from v (b ∷ w) ≡ read_on (with_digit v b) w
 unfolding number_from all_digits value_from with_digit
 digit_read v b w = by_digit (is_digit b)
   where
     by_size : (q : Bool) → leb (longer_by v b) most ≡ q →
-        number_from (longer_by v b) w ≡ read_on (cond q (At (longer_by v b)) Nothing) w
+        number_from (longer_by v b) w ≡ read_on (cond q (Some (longer_by v b)) None) w
     by_size true e = refl
     by_size false e = too_large (longer_by v b) w (leb-false _ _ e)
 
     by_digit : (q : Bool) →
         cond (cond q (all_digits w) false)
-        (cond (leb (value_from (longer_by v b) w) most) (At (value_from (longer_by v b) w)) Nothing)
-        Nothing
-        ≡ read_on (cond q (cond (leb (longer_by v b) most) (At (longer_by v b)) Nothing) Nothing) w
+        (cond (leb (value_from (longer_by v b) w) most) (Some (value_from (longer_by v b) w)) None)
+        None
+        ≡ read_on (cond q (cond (leb (longer_by v b) most) (Some (longer_by v b)) None) None) w
     by_digit true = by_size (leb (longer_by v b) most) refl
     by_digit false = refl
 
 -- a number that was read is not too large
-abbrev AtMost : NumberFound → Type 0
-AtMost (At n) = n ≤ most
-AtMost Nothing = Unit {0}
+abbrev AtMost : Option ℕ → Type 0
+AtMost (Some n) = n ≤ most
+AtMost None = Unit {0}
 
 digit_bound : (v b : ℕ) → AtMost (with_digit v b)
 unfolding with_digit
 digit_bound v b = by_digit (is_digit b)
   where
-    by_size : (q : Bool) → leb (longer_by v b) most ≡ q → AtMost (cond q (At (longer_by v b)) Nothing)
+    by_size : (q : Bool) → leb (longer_by v b) most ≡ q → AtMost (cond q (Some (longer_by v b)) None)
     by_size true e = leb-true _ _ e
     by_size false e = tt
 
-    by_digit : (q : Bool) → AtMost (cond q (cond (leb (longer_by v b) most) (At (longer_by v b)) Nothing) Nothing)
+    by_digit : (q : Bool) → AtMost (cond q (cond (leb (longer_by v b) most) (Some (longer_by v b)) None) None)
     by_digit true = by_size (leb (longer_by v b) most) refl
     by_digit false = tt
 
 -- The tests of one digit.
+digit_is_ascii : (b : ℕ) → is_digit b ≡ is_ascii_digit b
+digit_is_ascii b = both (leb 48 b) (leb b 57)
+  where
+    both : (p q : Bool) → cond p q false ≡ (p && q)
+    both true true = refl
+    both true false = refl
+    both false q = refl
+
 module _ (v b : ℕ) where
-  pub below_digits : b < 48 → Nothing ≡ with_digit v b
+  pub no_digit : is_ascii_digit b ≡ false → ◌≡◌ {A = Option ℕ} None (with_digit v b)
   unfolding with_digit
-  below_digits h = rw (lt-leb 48 b h)
+  no_digit h = rw (digit_is_ascii b, h)
 
-  pub above_digits : 57 < b → Nothing ≡ with_digit v b
-  unfolding with_digit
-  above_digits h = rw (le-leb 48 b (omega arith), lt-leb b 57 h)
-
-  module _ (low : 48 ≤ b) (high : b ≤ 57) where
-    pub over_by_digit : most < v * 10 + (b - 48) → Nothing ≡ with_digit v b
+  module _ (h : is_ascii_digit b ≡ true) where
+    pub product_too_large : (v * 10 < 2 ^ 64 → ⊥) → ◌≡◌ {A = Option ℕ} None (with_digit v b)
     unfolding with_digit
-    over_by_digit h = rw (le-leb 48 b low, le-leb b 57 high, lt-leb (longer_by v b) most h)
+    product_too_large f = rw (digit_is_ascii b, h, lt-leb (longer_by v b) most (omega arith))
 
-    pub digit_fits : v * 10 + (b - 48) ≤ most → At (v * 10 + (b - 48)) ≡ with_digit v b
+    pub sum_checked : (r : Option ℕ) → SomeIff r (longer_by v b < 2 ^ 64) (longer_by v b) → r ≡ with_digit v b
     unfolding with_digit
-    digit_fits h = rw (le-leb 48 b low, le-leb b 57 high, le-leb (longer_by v b) most h)
+    sum_checked (Some x) (fits, e) = rw (digit_is_ascii b, h, le-leb (longer_by v b) most (omega arith), e)
+    sum_checked None f = rw (digit_is_ascii b, h, lt-leb (longer_by v b) most (omega arith))
 
 -- The loop over the digits: the word says what the rest says behind the number so far.
 pub record NumberAhead (word : List ℕ) (value i : ℕ) : Type 0 where
@@ -97,7 +104,7 @@ pub record NumberAhead (word : List ℕ) (value i : ℕ) : Type 0 where
   pub fitting : value ≤ most
   pub ahead : number_from value (drop i word) ≡ number_of word
 
-pub empty_word : (w : List ℕ) → length w ≡ 0 → Nothing ≡ number_of w
+pub empty_word : (w : List ℕ) → length w ≡ 0 → ◌≡◌ {A = Option ℕ} None (number_of w)
 unfolding number_of
 empty_word [] h = refl
 empty_word (b ∷ w) h = absurd (omega arith)
@@ -112,23 +119,36 @@ module _ {word : List ℕ} {value i : ℕ} (inv : NumberAhead word value i) wher
   next_digit h =
       sym inv.ahead ∙ rw (add-one, drop-cons word i 0 h) (digit_read value (get_or word i 0) _)
 
-  pub digit_passed : {x : NumberFound} {n : ℕ} → i < length word → x ≡ with_digit value (get_or word i 0) → x ≡ At n →
+  pub digit_passed : {n : ℕ} → i < length word → Some n ≡ with_digit value (get_or word i 0) →
       NumberAhead word n (i + 1)
-  digit_passed {x} {n} h e f =
-      let is : with_digit value (get_or word i 0) ≡ At n = sym e ∙ f in
+  digit_passed {n} h e =
       record {
         passed = omega arith;
-        fitting = rw is at (digit_bound value (get_or word i 0));
-        ahead = sym (next_digit h ∙ rw is);
+        fitting = rw (sym e) at (digit_bound value (get_or word i 0));
+        ahead = sym (next_digit h ∙ rw (sym e));
       }
 
-  pub no_digit : {x : NumberFound} → i < length word → x ≡ with_digit value (get_or word i 0) → x ≡ Nothing →
-      Nothing ≡ number_of word
-  no_digit h e f =
-      let is : with_digit value (get_or word i 0) ≡ Nothing = sym e ∙ f in
-      sym (next_digit h ∙ rw is)
+  pub digit_missing : i < length word → ◌≡◌ {A = Option ℕ} None (with_digit value (get_or word i 0)) →
+      ◌≡◌ {A = Option ℕ} None (number_of word)
+  digit_missing h e = sym (next_digit h ∙ rw (sym e))
 
-  pub number_read : length word ≤ i → At value ≡ number_of word
+  pub number_read : length word ≤ i → ◌≡◌ {A = Option ℕ} (Some value) (number_of word)
   unfolding number_from all_digits value_from
   number_read h =
       sym (rw (drop_of_length-le word h, le-leb value most inv.fitting) at (sym inv.ahead))
+
+pub ruleset loop_rules = (empty_word, no_digit_passed, digit_passed, digit_missing, number_read)
+
+pub one_byte : (byte : ℕ) (word : List ℕ) → bytes_eq word (byte ∷ []) ≡ is_byte byte word
+unfolding is_byte
+one_byte byte [] = refl
+one_byte byte (b ∷ []) = by_test (eqb b byte)
+  where
+    by_test : (q : Bool) → (q && true) ≡ q
+    by_test true = refl
+    by_test false = refl
+one_byte byte (b ∷ d ∷ w) = rw (ne_eqb (suc (suc (length w))) 1 (omega arith)) (by_test (eqb b byte))
+  where
+    by_test : (q : Bool) → (q && false) ≡ false
+    by_test true = refl
+    by_test false = refl

@@ -1,4 +1,3 @@
 pub mod Words
-pub mod Starts
 pub mod Digits
 pub mod Texts

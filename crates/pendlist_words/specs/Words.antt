@@ -1,9 +1,7 @@
 -- The words of an input line of `pendlist`, and the number that a word says (document 01, "Cases"). Decided here:
 -- words are separated by exactly one blank (32), and none stands before the first word or behind the last; a number is
 -- one or more decimal digits, leading zeros are taken, and above 2^64 - 1 it is none.
-use Rattle.std.specs.Prelude.{Bool, true, false, cond, List, [], ◌∷◌, ℕ, ◌+◌, ◌*◌, ◌-◌, length, get_or, eqb, leb}
-use Rattle.pendlist_words.specs.declared.NumberFound.{NumberFound}
-use Rattle.pendlist_words.specs.declared.NumberFound.TheVariants.{At, Nothing}
+use Rattle.std.specs.Prelude.{Option, Some, None, Bool, true, false, cond, List, [], ◌∷◌, ℕ, ◌+◌, ◌*◌, ◌-◌, length, get_or, eqb, leb}
 
 -- the words with one byte more at the front of the first
 abbrev pub longer : ℕ → List (List ℕ) → List (List ℕ)
@@ -42,11 +40,11 @@ abbrev pub most : ℕ
 most = 18446744073709551615
 
 -- the number that digits behind a number make, if they are digits and it is at most 2^64 - 1
-unfoldable pub number_from : ℕ → List ℕ → NumberFound
+unfoldable pub number_from : ℕ → List ℕ → Option ℕ
 number_from v w =
-    cond (all_digits w) (cond (leb (value_from v w) most) (At (value_from v w)) Nothing) Nothing
+    cond (all_digits w) (cond (leb (value_from v w) most) (Some (value_from v w)) None) None
 
 -- the number that a word says, if it says one: an empty word says none
-unfoldable pub number_of : List ℕ → NumberFound
-number_of [] = Nothing
+unfoldable pub number_of : List ℕ → Option ℕ
+number_of [] = None
 number_of (b ∷ w) = number_from 0 (b ∷ w)

@@ -1,11 +1,8 @@
-use Rattle.pendlist_words.specs.Words.{is_byte}
-use borrow.Author.Tests.{eq-eqb, ne_eqb}
+use Rattle.std.proofs.Common.{◌∙◌, ap}
+use Rattle.std.specs.Str.{bytes_eq}
+use Rattle.pendlist_words.proofs.Digits.{one_byte}
 use Rattle.pendlist_words.proofs.is_byte.Goals as goal
 
-pub returns-then-word-eq1 : goal.returns-then-word-eq1
-unfolding is_byte
-returns-then-word-eq1 c = rw (eq-eqb _ _ c.if-word-eq1.true)
-
 pub returns : goal.returns
-unfolding is_byte
-returns c = rw (ne_eqb _ _ c.if-word-eq1.false)
+returns c =
+    c.eq.ensures ∙ ap (λ s. bytes_eq c.args.word.now s) c.as_slice.ensures ∙ one_byte c.args.byte c.args.word.now
