@@ -1,55 +1,47 @@
 -- The first line of a text and its last newline, byte by byte; the first line among the lines. Assumes nothing.
-use mathlib.Core.Path.{◌≡◌, refl, sym, ap, ◌∙◌}
+use mathlib.Core.Path.{◌≡◌, refl, sym, ap}
 use mathlib.Core.Bool.{Bool, true, false, cond}
-use mathlib.Core.List.{List, [], ◌∷◌, ◌++◌}
-use Prim.Native.Nat.{ℕ, suc, ◌+◌, ◌-◌, ◌≤◌, ◌<◌}
+use mathlib.Core.List.{List, [], ◌∷◌}
+use Prim.Native.Nat.{ℕ, zero, suc, ◌+◌, ◌-◌, ◌≤◌, ◌<◌}
 use native.Mathlib.Numerals.{add-one}
 use native.Mathlib.Omega.{arith}
-use lib.ListN.{length, get_or, take, drop, length-take, length-drop, drop_of_length-le}
-use lib.Seq.{drop-cons, take-suc, take-length, length-take-le}
-use lib.Dec.{eqb}
-use borrow.Author.Tests.{eq-eqb, ne_eqb}
+use lib.ListN.{length, get_or, take, drop, length-take, length-drop}
+use lib.Seq.{length-take-le}
+use lib.Dec.{eqb, ltb}
+use borrow.Author.Tests.{eq-eqb, ne_eqb, ltb-false}
+use Rattle.std.specs.Prelude.{unwrap_or, position}
+use Rattle.std.specs.List.{position_or_len}
+use Rattle.std.proofs.lemmas.List.Recursion.{is_position_or_len}
 use Rattle.pendlist_input.specs.Input.{lines_of, first_line, whole_lines}
 use Rattle.pendlist_words.specs.Words.{longer}
 
--- A newline ends the first line; any other byte is its first.
-module _ (b : ℕ) (s : List ℕ) where
-  line_ended : b ≡ 10 → length (first_line (b ∷ s)) ≡ 0
-  unfolding first_line
-  line_ended e = rw (eq-eqb b 10 e)
-
-  line_longer : (b ≡ 10 → ⊥) → length (first_line (b ∷ s)) ≡ suc (length (first_line s))
-  unfolding first_line
-  line_longer e = rw (ne_eqb b 10 e)
-
-no_line : length (first_line []) ≡ 0
+pub first_within : (s : List ℕ) → length (first_line s) ≤ length s
 unfolding first_line
-no_line = refl
+first_within [] = omega arith
+first_within (b ∷ s) = by_test (eqb b 10) (first_within s)
+  where
+    by_test : (q : Bool) → length (first_line s) ≤ length s → length (cond q [] (b ∷ first_line s)) ≤ suc (length s)
+    by_test true h = omega arith
+    by_test false h = omega arith
 
--- Finding the end: no newline is passed, and the first line of the rest is to come.
-pub record LinePassed (text : List ℕ) (end : ℕ) : Type 0 where
-  pub passed : end ≤ length text
-  pub ahead : length (first_line text) ≡ end + length (first_line (drop end text))
+-- The first line ends at the first newline, or else at the text's end.
+pub line_is_before : (text : List ℕ) → length (first_line text) ≡ position_or_len (λ b. eqb b 10) text
+unfolding first_line
+line_is_before text =
+    is_position_or_len (λ s. length (first_line s)) (λ b. eqb b 10) refl (λ b s. by_test b s (eqb b 10)) text
+  where
+    by_test : (b : ℕ) (s : List ℕ) (q : Bool) →
+        length (cond q [] (b ∷ first_line s)) ≡ cond q 0 (1 + length (first_line s))
+    by_test b s true = refl
+    by_test b s false = omega arith
 
-pub line_begins : (text : List ℕ) → LinePassed text 0
-line_begins text = record { passed = omega arith; ahead = omega arith }
-
-module _ {text : List ℕ} {end : ℕ} (inv : LinePassed text end) where
-  pub line_goes_on : end < length text → (get_or text end 0 ≡ 10 → ⊥) → LinePassed text (end + 1)
-  line_goes_on h e =
-      let more : length (first_line (drop end text)) ≡ suc (length (first_line (drop (end + 1) text))) =
-      rw (add-one, drop-cons text end 0 h) (line_longer _ _ e) in
-      record { passed = omega arith; ahead = omega (arith, inv.ahead) }
-
-  pub line_ends : end < length text → get_or text end 0 ≡ 10 → end ≡ length (first_line text)
-  line_ends h e =
-      let none : length (first_line (drop end text)) ≡ 0 = rw (drop-cons text end 0 h) (line_ended _ _ e) in
-      omega (arith, inv.ahead)
-
-  pub line_is_text : length text ≤ end → end ≡ length (first_line text)
-  line_is_text h =
-      let none : length (first_line (drop end text)) ≡ 0 = rw (drop_of_length-le text h) no_line in
-      omega (arith, inv.ahead)
+pub end_found : (text : List ℕ) → unwrap_or (position (λ b. eqb b 10) text) (length text) ≡ length (first_line text)
+end_found text = by_test (ltb (length (first_line text)) (length text)) refl
+  where
+    by_test : (q : Bool) → ltb (length (first_line text)) (length text) ≡ q →
+        unwrap_or (position (λ b. eqb b 10) text) (length text) ≡ length (first_line text)
+    by_test true e = rw (← line_is_before text, e)
+    by_test false e = rw (← line_is_before text, e) (omega (arith, ltb-false _ _ e, first_within text))
 
 -- The first line is a line, and the others follow its newline.
 first_and_others : (s : List ℕ) → 0 < length s →
@@ -87,61 +79,25 @@ first_is_front (b ∷ s) = by_test (eqb b 10) (first_is_front s)
     by_test true e = refl
     by_test false e = ap (λ (l : List ℕ). b ∷ l) e
 
-pub first_within : (s : List ℕ) → length (first_line s) ≤ length s
-unfolding first_line
-first_within [] = omega arith
-first_within (b ∷ s) = by_test (eqb b 10) (first_within s)
-  where
-    by_test : (q : Bool) → length (first_line s) ≤ length s → length (cond q [] (b ∷ first_line s)) ≤ suc (length s)
-    by_test true h = omega arith
-    by_test false h = omega arith
-
--- The last newline, from the back.
-module _ (b : ℕ) where
-  newline_last : b ≡ 10 → (s : List ℕ) → whole_lines (s ++ (b ∷ [])) ≡ length s + 1
-  unfolding whole_lines
-  newline_last e [] = rw (eq-eqb b 10 e)
-  newline_last e (d ∷ s) =
-      let more : whole_lines (s ++ (b ∷ [])) ≡ length s + 1 = newline_last e s in
-      rw (more, ne_eqb (length s + 1) 0 (omega arith)) (omega arith)
-
-  other_last : (b ≡ 10 → ⊥) → (s : List ℕ) → whole_lines (s ++ (b ∷ [])) ≡ whole_lines s
-  unfolding whole_lines
-  other_last e [] = rw (ne_eqb b 10 e)
-  other_last e (d ∷ s) = rw (other_last e s)
-
--- No newline stands from `end` on.
-pub record LinesAhead (text : List ℕ) (end : ℕ) : Type 0 where
-  pub passed : end ≤ length text
-  pub ahead : whole_lines text ≡ whole_lines (take end text)
-
-pub text_ahead : (text : List ℕ) → LinesAhead text (length text)
-text_ahead text = record { passed = omega arith; ahead = rw take-length }
-
-module _ {text : List ℕ} {end : ℕ} (inv : LinesAhead text end) (some : 0 < end) where
-  last_byte : take end text ≡ take (end - 1) text ++ (get_or text (end - 1) 0 ∷ [])
-  last_byte =
-      let z : end ≡ suc (end - 1) = omega arith in
-      ap (λ (n : ℕ). take n text) z ∙ take-suc text (end - 1) 0 (omega (arith, inv.passed))
-
-  pub newline_found : get_or text (end - 1) 0 ≡ 10 → end ≡ whole_lines text
-  newline_found e =
-      let n : whole_lines (take end text) ≡ length (take (end - 1) text) + 1 =
-      rw last_byte (newline_last _ e (take (end - 1) text)) in
-      let m : length (take (end - 1) text) ≡ end - 1 = length-take-le (end - 1) text (omega (arith, inv.passed)) in
-      omega (arith, inv.ahead)
-
-  pub other_byte : (get_or text (end - 1) 0 ≡ 10 → ⊥) → LinesAhead text (end - 1)
-  other_byte e = record {
-    passed = omega (arith, inv.passed);
-    ahead = inv.ahead ∙ rw last_byte (other_last _ e (take (end - 1) text));
-  }
-
-pub no_newline : {text : List ℕ} {end : ℕ} → LinesAhead text end → end ≤ 0 → 0 ≡ whole_lines text
+-- The last newline.
+pub no_newline : (s : List ℕ) → ((k : ℕ) → k < length s → get_or s k 0 ≡ 10 → ⊥) → 0 ≡ whole_lines s
 unfolding whole_lines
-no_newline {text} {end} inv h =
-    let z : end ≡ 0 = omega arith in
-    sym (inv.ahead ∙ rw z)
+no_newline [] h = refl
+no_newline (b ∷ s) h =
+    let none : 0 ≡ whole_lines s = no_newline s (λ k l e. h (suc k) (omega arith) e) in
+    rw (← none, ne_eqb b 10 (h 0 (omega arith)))
+
+pub last_newline : (s : List ℕ) (i : ℕ) → i < length s → get_or s i 0 ≡ 10 →
+    ((k : ℕ) → i < k → k < length s → get_or s k 0 ≡ 10 → ⊥) → i + 1 ≡ whole_lines s
+unfolding whole_lines
+last_newline [] i l e h = absurd (omega arith)
+last_newline (b ∷ s) zero l e h =
+    let none : 0 ≡ whole_lines s = no_newline s (λ k m f. h (suc k) (omega arith) (omega arith) f) in
+    rw (← none, eq-eqb b 10 e)
+last_newline (b ∷ s) (suc i) l e h =
+    let more : i + 1 ≡ whole_lines s =
+    last_newline s i (omega arith) e (λ k m n f. h (suc k) (omega arith) (omega arith) f) in
+    rw (← more, ne_eqb (i + 1) 0 (omega arith)) (omega arith)
 
 pub whole_within : (s : List ℕ) → whole_lines s ≤ length s
 unfolding whole_lines

@@ -46,3 +46,5 @@ module _ {body₀ body : List ℕ} {i : ℕ} (inv : Filled body₀ body i) where
   all_filled h =
       let z : i ≡ length body₀ = omega (arith, inv.same_length) in
       inv.now_is ∙ rw (z, drop-length, append-nil)
+
+pub ruleset filling = (none_filled, all_filled)

@@ -10,37 +10,27 @@ ghost use Rattle.pendlist_input.specs.Body.{ramp};
 pub fn line_end(text: &[u8]) -> usize
     ensures { result ≡ length (first_line text.now) }
 {
-    let mut end: usize = 0;
-    while end < text.len() {
-        if text[end] == b'\n' {
-            return end;
-        }
-        end += 1;
-    }
-    end
+    text.iter()
+        .position(|byte| *byte == b'\n')
+        .unwrap_or(text.len())
 }
 
 // How many bytes of a text are whole lines, each with its newline: what follows them is a line that may go on.
 pub fn whole_lines(text: &[u8]) -> usize
     ensures { result ≡ whole_lines text.now }
 {
-    let mut end = text.len();
-    while 0 < end {
-        if text[end - 1] == b'\n' {
-            return end;
-        }
-        end -= 1;
+    match text.iter().rposition(|byte| *byte == b'\n') {
+        Some(last) => last + 1,
+        None => 0,
     }
-    0
 }
 
 // Byte i of a body becomes i modulo 256.
+#[tactic(auto, using(crate::proofs::Ramp::filling))]
 pub fn fill_body(body: &mut [u8])
     ensures { body.new ≡ ramp 0 (length body.old) }
 {
-    let mut i: usize = 0;
-    while i < body.len() {
-        body[i] = (i % 256) as u8;
-        i += 1;
+    for (i, byte) in body.iter_mut().enumerate() {
+        *byte = (i % 256) as u8;
     }
 }

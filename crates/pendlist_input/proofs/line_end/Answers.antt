@@ -1,15 +1,14 @@
-use Rattle.pendlist_input.proofs.Ends.{line_begins, line_goes_on, line_ends, line_is_text}
-use borrow.Author.Rules.{rules}
+use Rattle.std.proofs.Common.{rules, tests, eqb, ap, ◌∙◌, length}
+use Rattle.std.specs.Prelude.{unwrap_or}
+use Rattle.std.proofs.lemmas.Iterator.{YieldsList-from_slice}
+use Rattle.std.proofs.lemmas.Iterator.Search.{position_from_yields_List}
+use Rattle.pendlist_input.proofs.Ends.{end_found}
 use Rattle.pendlist_input.proofs.line_end.Goals as goal
 
-pub loop-end-init : goal.loop-end-init
-loop-end-init c = search (line_begins, rules)
-
-pub returns-then-text-end-eq10 : goal.returns-then-text-end-eq10
-returns-then-text-end-eq10 c = search (line_ends, rules)
-
-pub loop-end-preserved : goal.loop-end-preserved
-loop-end-preserved c = search (line_goes_on, rules)
-
 pub returns : goal.returns
-returns c = search (line_is_text, rules)
+returns c =
+    let text = c.args.text.now in
+    let found =
+    position_from_yields_List (λ b. eqb b 10) _ _ c.position.result c.position.ensures.ran
+    (YieldsList-from_slice text c.iter.ensures.rest) (λ x b q k. search (rules, tests)) in
+    c.unwrap_or.ensures ∙ ap (λ r. unwrap_or r (length text)) found ∙ end_found text

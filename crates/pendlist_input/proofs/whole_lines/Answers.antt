@@ -1,15 +1,14 @@
-use Rattle.pendlist_input.proofs.Ends.{text_ahead, newline_found, other_byte, no_newline}
-use borrow.Author.Rules.{rules}
+use Rattle.std.proofs.Common.{rules, ◌≡◌, ℕ, ◌<◌, length, get_or}
+use Rattle.pendlist_input.proofs.Ends.{last_newline, no_newline}
 use Rattle.pendlist_input.proofs.whole_lines.Goals as goal
 
-pub loop-end-init : goal.loop-end-init
-loop-end-init c = search (text_ahead, rules)
+pub returns-in-Some : goal.returns-in-Some
+returns-in-Some c =
+    let within : c.in-Some.last < length c.args.text.now = search rules in
+    let here : get_or c.args.text.now c.in-Some.last 0 ≡ 10 = search rules in
+    let none : (k : ℕ) → c.in-Some.last < k → k < length c.args.text.now → get_or c.args.text.now k 0 ≡ 10 → ⊥ =
+    search rules in
+    last_newline c.args.text.now c.in-Some.last within here none
 
-pub returns-then-text-end-eq10 : goal.returns-then-text-end-eq10
-returns-then-text-end-eq10 c = search (newline_found, rules)
-
-pub loop-end-preserved : goal.loop-end-preserved
-loop-end-preserved c = search (other_byte, rules)
-
-pub returns : goal.returns
-returns c = search (no_newline, rules)
+pub returns-in-None : goal.returns-in-None
+returns-in-None c = no_newline c.args.text.now (search rules)
