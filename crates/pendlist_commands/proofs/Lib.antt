@@ -1,1 +1,1 @@
-pub mod WordByWord
+pub mod Small

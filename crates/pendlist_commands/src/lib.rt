@@ -3,10 +3,10 @@
 
 ghost use Rattle.std.specs.Prelude.{◌≡◌};
 ghost use Rattle.pendlist_words.specs.Words.{words_of, word_at};
-ghost use Rattle.pendlist_commands.specs.Commands.{ttl_of, open_of, offer_of, drain_of};
+ghost use Rattle.pendlist_commands.specs.Commands.{ttl_of, small_of, open_of, offer_of, drain_of};
 
-use config::{PendingFlowsConfig};
-use pendlist_words::{NumberFound, number_at, word_is};
+use config::PendingFlowsConfig;
+use pendlist_words::{number_at, word_is};
 
 // `o id length clock`: a body of that length is offered to the template.
 #[derive(Clone, Copy)]
@@ -23,110 +23,67 @@ pub struct DrainLine {
     pub clock: u64,
 }
 
-// What a line says.
+// What a line says that is not malformed.
 #[derive(Clone, Copy)]
-pub enum Line {
+pub enum Command {
     // `c` with five limits
     Open(PendingFlowsConfig),
     Offer(OfferLine),
     Drain(DrainLine),
-    // it is malformed
-    Bad,
 }
-
-// What a word says as a TTL.
-#[derive(Clone, Copy)]
-enum TtlFound {
-    Is(Option<u64>),
-    // neither `-` nor a number
-    Neither,
-}
-
-// The largest id and length.
-const MAX_U16: u64 = 65535;
 
 // Word k as a TTL: `-` is none.
-fn ttl_at(line: &[u8], k: usize) -> TtlFound
+#[tactic(auto, unfolding(crate::specs::Commands::ttl_of))]
+fn ttl_at(line: &[u8], k: usize) -> Option<Option<u64>>
     ensures { result ≡ ttl_of (word_at k (words_of line.now)) }
 {
     if word_is(line, k, b'-') {
-        return TtlFound::Is(None);
+        return Some(None);
     }
-    let NumberFound::At(limit) = number_at(line, k) else {
-        return TtlFound::Neither;
-    };
-    TtlFound::Is(Some(limit))
+    Some(Some(number_at(line, k)?))
+}
+
+// Word k as an id or a length.
+#[tactic(auto, unfolding(crate::specs::Commands::small_of, crate::specs::Commands::within16))]
+fn small_at(line: &[u8], k: usize) -> Option<u16>
+    ensures { result ≡ small_of (word_at k (words_of line.now)) }
+{
+    u16::try_from(number_at(line, k)?).ok()
 }
 
 // The limits in the five words behind `c`.
-pub fn open_line(line: &[u8]) -> Line
+#[tactic(auto, unfolding(crate::specs::Commands::open_of))]
+pub fn open_line(line: &[u8]) -> Option<Command>
     ensures { result ≡ open_of (words_of line.now) }
 {
-    let NumberFound::At(templates) = number_at(line, 1) else {
-        return Line::Bad;
-    };
-    let NumberFound::At(entries) = number_at(line, 2) else {
-        return Line::Bad;
-    };
-    let NumberFound::At(entry_size) = number_at(line, 3) else {
-        return Line::Bad;
-    };
-    let NumberFound::At(total) = number_at(line, 4) else {
-        return Line::Bad;
-    };
-    let TtlFound::Is(ttl) = ttl_at(line, 5) else {
-        return Line::Bad;
-    };
-    Line::Open(PendingFlowsConfig {
-        max_pending_flows: templates as usize,
-        max_entries_per_template: entries as usize,
-        max_entry_size_bytes: entry_size as usize,
-        max_total_bytes: total as usize,
-        ttl,
-    })
+    Some(Command::Open(PendingFlowsConfig {
+        max_pending_flows: number_at(line, 1)? as usize,
+        max_entries_per_template: number_at(line, 2)? as usize,
+        max_entry_size_bytes: number_at(line, 3)? as usize,
+        max_total_bytes: number_at(line, 4)? as usize,
+        ttl: ttl_at(line, 5)?,
+    }))
 }
 
 // The three words behind `o`.
-pub fn offer_line(line: &[u8]) -> Line
+#[tactic(auto, using(crate::proofs::Small::offer_by_words))]
+pub fn offer_line(line: &[u8]) -> Option<Command>
     ensures { result ≡ offer_of (words_of line.now) }
 {
-    let NumberFound::At(id) = number_at(line, 1) else {
-        return Line::Bad;
-    };
-    let NumberFound::At(len) = number_at(line, 2) else {
-        return Line::Bad;
-    };
-    let NumberFound::At(clock) = number_at(line, 3) else {
-        return Line::Bad;
-    };
-    if MAX_U16 < id {
-        return Line::Bad;
-    }
-    if MAX_U16 < len {
-        return Line::Bad;
-    }
-    Line::Offer(OfferLine {
-        id: id as u16,
-        len: len as u16,
-        clock,
-    })
+    Some(Command::Offer(OfferLine {
+        id: small_at(line, 1)?,
+        len: small_at(line, 2)?,
+        clock: number_at(line, 3)?,
+    }))
 }
 
 // The two words behind `d`.
-pub fn drain_line(line: &[u8]) -> Line
+#[tactic(auto, using(crate::proofs::Small::drain_by_words))]
+pub fn drain_line(line: &[u8]) -> Option<Command>
     ensures { result ≡ drain_of (words_of line.now) }
 {
-    let NumberFound::At(id) = number_at(line, 1) else {
-        return Line::Bad;
-    };
-    let NumberFound::At(clock) = number_at(line, 2) else {
-        return Line::Bad;
-    };
-    if MAX_U16 < id {
-        return Line::Bad;
-    }
-    Line::Drain(DrainLine {
-        id: id as u16,
-        clock,
-    })
+    Some(Command::Drain(DrainLine {
+        id: small_at(line, 1)?,
+        clock: number_at(line, 2)?,
+    }))
 }
