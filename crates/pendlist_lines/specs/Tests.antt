@@ -1,37 +1,36 @@
 -- What lines say, document 01's five first, and what is malformed. Proved by computation.
-use Rattle.std.specs.Prelude.{Option, Some, None}
-use Rattle.std.specs.Prelude.{◌≡◌, refl, List, [], ◌∷◌, ◌++◌, map, ℕ, true, false, replicate}
+use Rattle.std.specs.Prelude.{◌≡◌, refl, Option, Some, None, List, [], ◌∷◌, ◌++◌, map, ℕ, true, false, replicate}
 use Prim.Native.String.{String}
-use Rattle.pendlist_commands.specs.declared.Line.{Line}
-use Rattle.pendlist_commands.specs.declared.Line.TheVariants.{Open, Offer, Drain, Bad}
+use Rattle.pendlist_commands.specs.declared.Command.{Command}
+use Rattle.pendlist_commands.specs.declared.Command.TheVariants.{Open, Offer, Drain}
 use Rattle.pendlist_lines.specs.Grammar.{words_of, is_byte, all_digits, value_from, number_from, number_of, ttl_of}
-use Rattle.pendlist_lines.specs.Grammar.{with_number, with_ttl, within16, open_of, offer_of, drain_of, is_command}
+use Rattle.pendlist_lines.specs.Grammar.{within16, open_of, offer_of, drain_of, is_command}
 use Rattle.pendlist_lines.specs.Grammar.{from_words, line_of, in_order}
 pub use Rattle.pendlist_words.specs.Texts.{bytes_of}
 
-abbrev says : String → Line
+abbrev says : String → Option Command
 says s = line_of (bytes_of s)
 
-abbrev opens : ℕ → ℕ → ℕ → ℕ → Option ℕ → Line
-opens templates entries size total t = Open (record {
+abbrev opens : ℕ → ℕ → ℕ → ℕ → Option ℕ → Option Command
+opens templates entries size total t = Some (Open (record {
   max_pending_flows = templates;
   max_entries_per_template = entries;
   max_entry_size_bytes = size;
   max_total_bytes = total;
   ttl = t;
-})
+}))
 
-abbrev offers : ℕ → ℕ → ℕ → Line
-offers i n t = Offer (record { id = i; len = n; clock = t })
+abbrev offers : ℕ → ℕ → ℕ → Option Command
+offers i n t = Some (Offer (record { id = i; len = n; clock = t }))
 
-abbrev drains : ℕ → ℕ → Line
-drains i t = Drain (record { id = i; clock = t })
+abbrev drains : ℕ → ℕ → Option Command
+drains i t = Some (Drain (record { id = i; clock = t }))
 
 -- document 01's lines
 pub document_lines :
     map says ("c 2 2 10 16 100" ∷ "o 300 6 0" ∷ "o 301 8 1" ∷ "o 300 4 2" ∷ "d 301 3" ∷ [])
     ≡ opens 2 2 10 16 (Some 100) ∷ offers 300 6 0 ∷ offers 301 8 1 ∷ offers 300 4 2 ∷ drains 301 3 ∷ []
-unfolding words_of is_byte all_digits value_from number_from number_of ttl_of with_number with_ttl within16 open_of offer_of
+unfolding words_of is_byte all_digits value_from number_from number_of ttl_of within16 open_of offer_of
     drain_of is_command from_words line_of
 document_lines = refl
 
@@ -42,7 +41,7 @@ pub lines_taken :
     ∷ "o 65535 65535 0" ∷ "d 65535 0" ∷ "c 0 0 0 18446744073709551615 18446744073709551615" ∷ [])
     ≡ opens 2 2 10 16 None ∷ opens 2 2 10 16 (Some 0) ∷ drains 301 3 ∷ drains 0 18446744073709551615
     ∷ offers 65535 65535 0 ∷ drains 65535 0 ∷ opens 0 0 0 18446744073709551615 (Some 18446744073709551615) ∷ []
-unfolding words_of is_byte all_digits value_from number_from number_of ttl_of with_number with_ttl within16 open_of offer_of
+unfolding words_of is_byte all_digits value_from number_from number_of ttl_of within16 open_of offer_of
     drain_of is_command from_words line_of
 lines_taken = refl
 
@@ -75,28 +74,28 @@ large =
     ∷ "d 301 100000000000000000000" ∷ "c 18446744073709551616 2 10 16 100" ∷ "c 2 2 10 16 18446744073709551616" ∷ []
 
 pub lines_malformed : map says (blanks ++ (counts ++ (letters ++ (numbers ++ large))))
-    ≡ map (λ s. Bad) (blanks ++ (counts ++ (letters ++ (numbers ++ large))))
-unfolding words_of is_byte all_digits value_from number_from number_of ttl_of with_number with_ttl within16 open_of offer_of
+    ≡ map (λ s. None) (blanks ++ (counts ++ (letters ++ (numbers ++ large))))
+unfolding words_of is_byte all_digits value_from number_from number_of ttl_of within16 open_of offer_of
     drain_of is_command from_words line_of
 lines_malformed = refl
 
 -- a drain of id 301 with so many zeros in front of its clock reading, 3: the line has seven bytes more
-abbrev padded : ℕ → Line
+abbrev padded : ℕ → Option Command
 padded zeros = line_of (bytes_of "d 301 " ++ (replicate zeros 48 ++ bytes_of "3"))
 
 -- the longest line, and one byte more
-pub length_of_lines : (padded 248 ≡ drains 301 3) × (padded 249 ≡ Bad)
-unfolding words_of is_byte all_digits value_from number_from number_of ttl_of with_number with_ttl within16 open_of offer_of
+pub length_of_lines : (padded 248 ≡ drains 301 3) × (padded 249 ≡ None)
+unfolding words_of is_byte all_digits value_from number_from number_of ttl_of within16 open_of offer_of
     drain_of is_command from_words line_of
 length_of_lines = (refl, refl)
 
 -- `c` comes first and once
 pub lines_in_order :
-    map (in_order false) (opens 2 2 10 16 None ∷ offers 300 6 0 ∷ drains 301 3 ∷ Bad ∷ [])
-    ≡ opens 2 2 10 16 None ∷ Bad ∷ Bad ∷ Bad ∷ []
+    map (in_order false) (opens 2 2 10 16 None ∷ offers 300 6 0 ∷ drains 301 3 ∷ None ∷ [])
+    ≡ opens 2 2 10 16 None ∷ None ∷ None ∷ None ∷ []
 lines_in_order = refl
 
 pub lines_in_order_after :
-    map (in_order true) (opens 2 2 10 16 None ∷ offers 300 6 0 ∷ drains 301 3 ∷ Bad ∷ [])
-    ≡ Bad ∷ offers 300 6 0 ∷ drains 301 3 ∷ Bad ∷ []
+    map (in_order true) (opens 2 2 10 16 None ∷ offers 300 6 0 ∷ drains 301 3 ∷ None ∷ [])
+    ≡ None ∷ offers 300 6 0 ∷ drains 301 3 ∷ None ∷ []
 lines_in_order_after = refl
