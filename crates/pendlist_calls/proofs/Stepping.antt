@@ -9,8 +9,9 @@ use Prim.Native.Nat.{ℕ}
 use native.Mathlib.Omega.{arith}
 use Rattle.config.specs.declared.PendingFlowsConfig.{PendingFlowsConfig}
 use Rattle.config.specs.declared.ConfigRefusal.{ConfigRefusal}
-use Rattle.pendlist_commands.specs.declared.Line.{Line}
-use Rattle.pendlist_commands.specs.declared.Line.TheVariants as Says
+use Rattle.std.specs.Prelude.{Option as Parsed, Some, None}
+use Rattle.pendlist_commands.specs.declared.Command.{Command}
+use Rattle.pendlist_commands.specs.declared.Command.TheVariants as Says
 use Rattle.pendlist_commands.specs.declared.OfferLine.{OfferLine}
 use Rattle.pendlist_commands.specs.declared.DrainLine.{DrainLine}
 use Rattle.pendlist_lines.specs.Grammar.{line_of, in_order}
@@ -61,11 +62,11 @@ module _ (letter n : ℕ) (v : Option Cache) {r : FiguresAnswer}
 
 -- `c`.
 module _ {limits : PendingFlowsConfig} {a a' : Areas} {r : Result ⊤ ConfigRefusal} (done : Opens limits a r a') where
-  pub open_taken : r ≡ (Ok tt) → Steps (Says.Open limits) a Opened a'
+  pub open_taken : r ≡ Ok tt → Steps (Some (Says.Open limits)) a Opened a'
   unfolding step_of
   open_taken e = record { outcome = rw (sym done.answer, e); holds = done.holds }
 
-  pub open_refused : {n : ConfigRefusal} → r ≡ Err n → Steps (Says.Open limits) a Bad a'
+  pub open_refused : {n : ConfigRefusal} → r ≡ Err n → Steps (Some (Says.Open limits)) a Bad a'
   unfolding step_of
   open_refused e = record { outcome = rw (sym done.answer, e); holds = done.holds }
 
@@ -77,27 +78,27 @@ module _ {f : Cache → Done} {a a' : Areas} {x : Answer} (done : Performs f a x
 
 module _ {a a' : Areas} {x : Answer} {n : ℕ} {r : Outcome} where
   pub offer_told : (o : OfferLine) → Performs (offered o.id (body_of (ramp 0 o.len) o.clock)) a x a' →
-      n ≡ figure_of x → r ≡ row_after 111 n (view a') → Steps (Says.Offer o) a r a'
+      n ≡ figure_of x → r ≡ row_after 111 n (view a') → Steps (Some (Says.Offer o)) a r a'
   unfolding step_of
   offer_told o done e g = record { outcome = row_right done 111 e g; holds = done.holds }
 
   pub drain_told : (d : DrainLine) → Performs (drained d.id d.clock) a x a' →
-      n ≡ figure_of x → r ≡ row_after 100 n (view a') → Steps (Says.Drain d) a r a'
+      n ≡ figure_of x → r ≡ row_after 100 n (view a') → Steps (Some (Says.Drain d)) a r a'
   unfolding step_of
   drain_told d done e g = record { outcome = row_right done 100 e g; holds = done.holds }
 
 -- A line that was read, put in order, and is known to say this.
-module _ (opened : Bool) (line : List ℕ) {read wanted : Line} (parsed : read ≡ line_of line)
+module _ (opened : Bool) (line : List ℕ) {read wanted : Parsed Command} (parsed : read ≡ line_of line)
     (ordered : wanted ≡ in_order opened read) {a : Areas} where
-  pub line_run : {x : Line} {a' : Areas} {r : Outcome} → wanted ≡ x → Steps x a r a' → RunsLine opened line a r a'
+  pub line_run : {x : Parsed Command} {a' : Areas} {r : Outcome} → wanted ≡ x → Steps x a r a' → RunsLine opened line a r a'
   line_run {x} e done =
       let is : in_order opened (line_of line) ≡ x = rw (← parsed) (sym ordered ∙ e) in
       rw is done
 
-  pub nothing_run : wanted ≡ Says.Bad → RunsLine opened line a Bad a
+  pub nothing_run : wanted ≡ None → RunsLine opened line a Bad a
   unfolding step_of
   nothing_run e =
-      let is : in_order opened (line_of line) ≡ Says.Bad = rw (← parsed) (sym ordered ∙ e) in
+      let is : in_order opened (line_of line) ≡ None = rw (← parsed) (sym ordered ∙ e) in
       rw is (record { outcome = refl; holds = refl })
 
 -- The body that is offered is the one that was filled, as long as the line says.

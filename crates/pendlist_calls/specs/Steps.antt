@@ -1,8 +1,9 @@
 -- What a line of a list comes to (document 01, "Cases").
 use Rattle.std.specs.Prelude.{◌≡◌, Bool, List, ℕ, length}
 use Rattle.std.proofs.Math.Option.{Option, none, some}
-use Rattle.pendlist_commands.specs.declared.Line.{Line}
-use Rattle.pendlist_commands.specs.declared.Line.TheVariants as Says
+use Rattle.std.specs.Prelude.{Option as Parsed, Some, None}
+use Rattle.pendlist_commands.specs.declared.Command.{Command}
+use Rattle.pendlist_commands.specs.declared.Command.TheVariants as Says
 use Rattle.pendlist_lines.specs.Grammar.{line_of, in_order}
 use Rattle.pendlist_input.specs.Body.{ramp}
 use Rattle.cache_model.specs.Cache.{Cache, Figures, Answer, done, number, count, says, shows, spans, tells}
@@ -66,15 +67,15 @@ abbrev pub open_step : Reply → Step
 open_step r = record { outcome = open_outcome r.answer; holds = r.holds }
 
 -- what is done by a line, in areas of so many bytes and words; "byte i of a body is i modulo 256"
-unfoldable pub step_of : Line → (bytes words : ℕ) → Option Cache → Step
-step_of (Says.Open limits) bytes words v = open_step (opening limits bytes words v)
-step_of (Says.Offer o) bytes words v =
+unfoldable pub step_of : Parsed Command → (bytes words : ℕ) → Option Cache → Step
+step_of (Some (Says.Open limits)) bytes words v = open_step (opening limits bytes words v)
+step_of (Some (Says.Offer o)) bytes words v =
     call_step 111 (called (offered o.id (body_of (ramp 0 o.len) o.clock)) v)
-step_of (Says.Drain d) bytes words v = call_step 100 (called (drained d.id d.clock) v)
-step_of Says.Bad bytes words v = record { outcome = Bad; holds = v }
+step_of (Some (Says.Drain d)) bytes words v = call_step 100 (called (drained d.id d.clock) v)
+step_of None bytes words v = record { outcome = Bad; holds = v }
 
 -- The areas then hold what the definition leaves, and the outcome is the definition's.
-pub record Steps (line : Line) (a : Areas) (r : Outcome) (a' : Areas) : Type 0 where
+pub record Steps (line : Parsed Command) (a : Areas) (r : Outcome) (a' : Areas) : Type 0 where
   pub outcome : r ≡ (step_of line (length a.bytes) (length a.words) (view a)).outcome
   pub holds : view a' ≡ (step_of line (length a.bytes) (length a.words) (view a)).holds
 

@@ -2,7 +2,7 @@
 #![tactic(auto)]
 
 ghost use Rattle.std.specs.Prelude.{◌≡◌, length};
-ghost use Rattle.pendlist_commands.specs.declared.Line.TheVariants as Says;
+ghost use Rattle.pendlist_commands.specs.declared.Command.TheVariants as Says;
 ghost use Rattle.pendlist_input.specs.Body.{ramp};
 ghost use Rattle.cache_model.specs.Offer.{offered};
 ghost use Rattle.pending_flows.specs.View.{areas_of, view};
@@ -16,7 +16,7 @@ use pending_drain::{DrainAnswer, drain};
 use pending_flows::open;
 use pending_offer::{OfferAnswer, OfferRefusal, cache};
 use pending_queries::{FiguresAnswer, take_figures};
-use pendlist_commands::{DrainLine, Line, OfferLine};
+use pendlist_commands::{Command, DrainLine, OfferLine};
 use pendlist_input::fill_body;
 use pendlist_lines::{in_order, parse_line};
 use pendlist_rows::{Outcome, Row};
@@ -40,7 +40,7 @@ fn row_after(words: &[u64], bytes: &[u8], call: u8, answer: u64) -> Outcome
 
 // `c`: opens the cache.
 fn run_open(words: &mut [u64], bytes: &[u8], config: PendingFlowsConfig) -> Outcome
-    ensures { Steps (Says.Open config) (areas_of words.old bytes.now) result
+    ensures { Steps (Some (Says.Open config)) (areas_of words.old bytes.now) result
         (areas_of words.new bytes.now) }
 {
     let Ok(()) = open(config, words, bytes) else {
@@ -99,7 +99,7 @@ fn offer_line(words: &mut [u64], bytes: &mut [u8], line: OfferLine) -> OfferAnsw
 
 // `o`: offers a body.
 fn run_offer(words: &mut [u64], bytes: &mut [u8], line: OfferLine) -> Outcome
-    ensures { Steps (Says.Offer line) (areas_of words.old bytes.old) result
+    ensures { Steps (Some (Says.Offer line)) (areas_of words.old bytes.old) result
         (areas_of words.new bytes.new) }
 {
     let answer = offer_line(words, bytes, line);
@@ -118,7 +118,7 @@ fn drain_figure(answer: DrainAnswer) -> u64
 
 // `d`: drains a template.
 fn run_drain(words: &mut [u64], bytes: &[u8], line: DrainLine) -> Outcome
-    ensures { Steps (Says.Drain line) (areas_of words.old bytes.now) result
+    ensures { Steps (Some (Says.Drain line)) (areas_of words.old bytes.now) result
         (areas_of words.new bytes.now) }
 {
     let answer = drain(words, bytes, line.id, line.clock);
@@ -132,10 +132,10 @@ pub fn run_line(words: &mut [u64], bytes: &mut [u8], opened: bool, line: &[u8]) 
 {
     let wanted = in_order(opened, parse_line(line));
     match wanted {
-        Line::Open(config) => run_open(words, bytes, config),
-        Line::Offer(offer) => run_offer(words, bytes, offer),
-        Line::Drain(drain) => run_drain(words, bytes, drain),
-        Line::Bad => Outcome::Bad,
+        Some(Command::Open(config)) => run_open(words, bytes, config),
+        Some(Command::Offer(offer)) => run_offer(words, bytes, offer),
+        Some(Command::Drain(drain)) => run_drain(words, bytes, drain),
+        None => Outcome::Bad,
     }
 }
 
