@@ -176,6 +176,8 @@ module _ {numbers : List ℕ} {at i end : ℕ} {out₀ out : List ℕ} (inv : Nu
       let z : i ≡ length numbers = omega (arith, inv.passed) in
       rw (z, take-length) at inv.puts
 
+pub ruleset putting = (none_put, one_put, all_put)
+
 -- A letter, the numbers and a newline.
 pub row_put : (b at r : ℕ) (numbers : List ℕ) {out out' out'' : List ℕ} → at < length out → out' ≡ set out at b →
     Puts (numbers_text numbers) (21 * length numbers) (at + 1) out' r out'' → r < length out'' →
@@ -202,3 +204,5 @@ module _ {outcome : Outcome} {at : ℕ} {out : List ℕ} where
       let four : Puts (98 ∷ 97 ∷ 100 ∷ 10 ∷ []) 4 at out (at + 4) (put_at at (98 ∷ 97 ∷ 100 ∷ 10 ∷ []) out) =
       bytes_put (98 ∷ 97 ∷ 100 ∷ 10 ∷ []) 4 at out refl (omega arith) in
       record { follows = rw (is, e) four.follows; short = omega arith }
+
+pub ruleset telling = (nothing_told, row_told, bad_told)

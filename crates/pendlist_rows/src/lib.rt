@@ -45,16 +45,15 @@ fn put_number(out: &mut [u8], at: usize, n: u64) -> usize
 }
 
 // Puts numbers into the text from `at` on, a blank before each.
+#[tactic(auto, using(crate::proofs::Texts::putting))]
 fn put_numbers(out: &mut [u8], at: usize, numbers: &[u64]) -> usize
     requires { at + 21 * length numbers.now ≤ length out.old }
     ensures { Puts (numbers_text numbers.now) (21 * length numbers.now) at out.old result
         out.new }
 {
     let mut end = at;
-    let mut i: usize = 0;
-    while i < numbers.len() {
-        end = put_number(out, end, numbers[i]);
-        i += 1;
+    for n in numbers {
+        end = put_number(out, end, *n);
     }
     end
 }
@@ -73,6 +72,7 @@ fn put_row(out: &mut [u8], at: usize, row: Row) -> usize
 }
 
 // Puts what a line came to into the text from `at` on: a row, `bad`, or nothing.
+#[tactic(auto, using(crate::proofs::Texts::telling))]
 pub fn put_outcome(out: &mut [u8], at: usize, outcome: Outcome) -> usize
     requires { at + 107 ≤ length out.old }
     ensures { Puts (outcome_text outcome) 107 at out.old result out.new }
