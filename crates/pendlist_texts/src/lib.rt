@@ -30,11 +30,7 @@ pub struct TextDone {
 fn is_bad(outcome: Outcome) -> bool
     ensures { result ≡ is_bad outcome }
 {
-    match outcome {
-        Outcome::Opened => false,
-        Outcome::Told(_) => false,
-        Outcome::Bad => true,
-    }
+    matches!(outcome, Outcome::Bad)
 }
 
 // Carries out the line of a text that begins at `at`.
