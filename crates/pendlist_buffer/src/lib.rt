@@ -1,13 +1,11 @@
 // A turn: what is done with the bytes that a read brought.
 #![tactic(auto)]
 
-ghost use Rattle.std.specs.Prelude.{◌≡◌, ◌≤◌, length, take};
+ghost use Rattle.std.specs.Prelude.{◌≡◌, ◌≤◌, length};
 ghost use Rattle.pending_flows.specs.View.{areas_of};
-ghost use Rattle.pendlist_texts.specs.Lists.{RunsText};
 ghost use Rattle.pendlist_buffer.specs.Buffer.{TakesTurn};
 
-use areas::move_bytes_down;
-use pendlist_texts::{TextDone, run_text};
+use pendlist_texts::run_text;
 use pendlist_turns::bytes_ready;
 
 // What a turn leaves.
@@ -21,22 +19,6 @@ pub struct Turn {
     pub bad: bool,
     // the bytes of the rows
     pub filled: usize,
-}
-
-// Carries out the lines among the buffer's first n bytes.
-fn run_front(
-    words: &mut [u64],
-    bytes: &mut [u8],
-    buffer: &[u8],
-    n: usize,
-    opened: bool,
-    out: &mut [u8],
-) -> TextDone
-    requires { (n ≤ length buffer.now) × (n ≤ 4096) × (length out.old ≡ 438272) }
-    ensures { RunsText opened (take n buffer.now) (areas_of words.old bytes.old) result
-        (areas_of words.new bytes.new) out.new }
-{
-    run_text(words, bytes, &buffer[..n], opened, out)
 }
 
 // Carries out what is ready of the buffer's first n bytes, of which `kept` were there before, puts the rows into `out`
@@ -55,9 +37,9 @@ pub fn take_turn(
         (areas_of words.new bytes.new) buffer.new out.new }
 {
     let ready = bytes_ready(buffer, kept, n);
-    let done = run_front(words, bytes, buffer, ready, opened, out);
+    let done = run_text(words, bytes, &buffer[..ready], opened, out);
     let left = n - ready;
-    move_bytes_down(buffer, ready, 0, left);
+    buffer.copy_within(ready..n, 0);
     Turn {
         kept: left,
         opened: done.opened,

@@ -8,17 +8,23 @@ use native.Mathlib.Omega.{arith}
 use lib.ListN.{length, take, drop, length-append, length-drop}
 use lib.Seq.{take-length}
 use lib.Dec.{leb}
-use borrow.Author.Tests.{leb-false}
+use borrow.Author.Tests.{leb-false, lt-leb}
 use Rattle.pendlist_input.specs.Input.{lines_of, first_line, whole_lines}
 use Rattle.pendlist_input.proofs.Ends.{first_of_lines}
 use Rattle.pendlist_input.proofs.Cuts.{lines_parted, rest_in_first}
-use Rattle.pendlist_lines.proofs.Lines.{too_long}
+use Rattle.std.specs.Prelude.{None}
+use Rattle.pendlist_lines.specs.Grammar.{line_of}
 use Rattle.cache_model.specs.Cache.{Cache}
 use Rattle.pendlist_rows.specs.Text.{outcome_text}
 use Rattle.pendlist_calls.specs.Steps.{Step, step_of}
 use Rattle.pendlist_texts.specs.Lists.{is_bad, ListState, line_step, after_lines, rows_of}
 use Rattle.pendlist_turns.specs.Turns.{ready_of, Standing, begun, with_turn, turn_of, next_turn, turns_of}
 use Rattle.pendlist_turns.specs.Turns.{input_turns, joined}
+
+-- a line that is too long is malformed
+too_long : (line : List ℕ) → 255 < length line → line_of line ≡ None
+unfolding line_of
+too_long line h = rw (lt-leb (length line) 255 h)
 
 -- What lines come to, and what is written of them.
 record Carried : Type 0 where
@@ -97,7 +103,7 @@ module _ (bytes words : ℕ) where
   long_line : (x : List ℕ) (xs : List (List ℕ)) (opened : Bool) (v : Option Cache) → 255 < length x →
       carried (x ∷ xs) opened v ≡ bad_at opened v
   unfolding after_lines rows_of step_of carried bad_at
-  long_line x xs opened v long = rw (sym (too_long x long))
+  long_line x xs opened v long = rw (too_long x long)
 
   -- Bytes of which the last are too long for a line: what follows them changes nothing.
   module _ (there : List ℕ) (opened : Bool) (v : Option Cache) (long : 255 < length there - whole_lines there) where
