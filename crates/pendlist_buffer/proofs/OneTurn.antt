@@ -6,7 +6,7 @@ use Prim.Native.Nat.{ℕ, ◌+◌, ◌*◌, ◌-◌, ◌≤◌}
 use native.Mathlib.Omega.{arith}
 use lib.ListN.{length, take, drop, length-drop}
 use lib.Seq.{length-take-le, take-take, take-add, take_at, drop_at}
-use Rattle.areas.specs.Overwrite.{moved}
+use Rattle.std.specs.List.{copy_within}
 use Rattle.pending_flows.specs.View.{Areas}
 use Rattle.pendlist_texts.specs.declared.TextDone.{TextDone}
 use Rattle.pendlist_texts.specs.Lists.{RunsText}
@@ -20,8 +20,7 @@ front_fits n buffer out h few long = rw (length-take-le n buffer h) (omega arith
 
 -- what is left of the first n bytes, brought to the front
 left_moved : (buffer : List ℕ) (n ready : ℕ) → n ≤ length buffer → ready ≤ n →
-    take (n - ready) (moved ready 0 (n - ready) buffer) ≡ drop ready (take n buffer)
-unfolding moved
+    take (n - ready) (copy_within buffer ready n 0) ≡ drop ready (take n buffer)
 left_moved buffer n ready h among =
     let all : n ≡ ready + (n - ready) = omega arith in
     let there : take n buffer ≡ take ready buffer ++ take (n - ready) (drop ready buffer) =
@@ -32,7 +31,7 @@ left_moved buffer n ready h among =
 
 pub turn_taken : (buffer : List ℕ) (kept n : ℕ) (opened : Bool) {ready : ℕ} {done : TextDone} {a a' : Areas}
     {buffer' out' : List ℕ} → n ≤ length buffer → length buffer ≡ 4096 → Ready buffer kept n ready →
-    RunsText opened (take ready buffer) a done a' out' → buffer' ≡ moved ready 0 (n - ready) buffer →
+    RunsText opened (take ready buffer) a done a' out' → buffer' ≡ copy_within buffer ready n 0 →
     TakesTurn buffer kept n opened a
     (record { kept = n - ready; opened = done.opened; bad = done.bad; filled = done.filled }) a' buffer' out'
 unfolding turn_of
