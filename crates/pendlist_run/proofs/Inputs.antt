@@ -2,7 +2,7 @@
 use mathlib.Core.Path.{◌≡◌, refl, sym, ap, ◌∙◌}
 use mathlib.Core.Bool.{Bool, true, false}
 use mathlib.Core.List.{List, [], ◌∷◌, ◌++◌, append_assoc, append-nil}
-use Rattle.std.specs.Prelude.{Option, Some, None}
+use Rattle.std.specs.Prelude.{Option, Some, None, Result, Ok, Err, is_err, OnOk}
 use Rattle.std.specs.Io.KnownBytes.{Appends, Consumes}
 use Prim.Native.Nat.{ℕ, ◌+◌, ◌-◌, ◌≤◌}
 use native.Mathlib.Omega.{arith}
@@ -52,6 +52,11 @@ adds_more None h' h'' b c p q = tt
 adds_more (Some xs) None h'' b c p q = absurd p
 adds_more (Some xs) (Some ys) None b c p q = absurd q
 adds_more (Some xs) (Some ys) (Some zs) b c p q = q ∙ ap (λ (l : List ℕ). l ++ c) p ∙ append_assoc xs b c
+
+-- what is said of an `Ok`
+pub said_at_ok : {T E P : Type 0} (r : Result T E) → false ≡ is_err r → OnOk r P → P
+said_at_ok (Ok x) e h = h
+said_at_ok (Err x) e h = cc
 
 -- A read into the buffer behind its first bytes.
 pub read_behind : (kept n : ℕ) (buffer part : List ℕ) (known known' : Option (List ℕ)) → kept ≤ length buffer →

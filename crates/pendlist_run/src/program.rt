@@ -1,11 +1,11 @@
 // The program: reads, turns and writes.
-ghost use Rattle.std.specs.Prelude.{◌≡◌, ◌≤◌, true, length, take};
+ghost use Rattle.std.specs.Prelude.{◌≡◌, ◌≤◌, length, take, OnOk};
 ghost use Rattle.std.specs.Io.KnownBytes.{Appends};
 ghost use Rattle.pending_flows.specs.View.{areas_of};
 ghost use Rattle.pendlist_run.specs.Program.{ReadsBehind, HandsRows, RunsInput, RunsProgram, header};
 
 use pendlist_buffer::take_turn;
-use pendlist_calls::{byte_area, word_area};
+use std::io;
 use std::io::{Read, Write};
 
 // How the program ended.
@@ -22,30 +22,32 @@ pub enum Ended {
 }
 
 // How often the input is read. A read that brings no byte is the last one, and no input has so many bytes.
-const MOST_READS: u64 = 18446744073709551615;
+const MOST_READS: u64 = u64::MAX;
 
-// Room for the rows of a turn: 107 bytes for each byte of the buffer.
-fn rows_room() -> [u8; 438272]
-    ensures { 438272 ≡ length result }
-{
-    [0; 438272]
-}
+// The lengths of the areas, from document 01.
+const WORDS: usize = 4096;
 
-// Writes the rows of a turn, and answers whether all were written.
-fn write_rows<W: Write>(writer: &mut W, out: &[u8], filled: usize) -> bool
+const BYTES: usize = 16384;
+
+// The bytes that are read at a time.
+const BUFFER: usize = 4096;
+
+// The bytes of a turn's rows: 107 for each byte of the buffer.
+const ROWS: usize = 107 * BUFFER;
+
+// Writes the rows of a turn.
+fn write_rows<W: Write>(writer: &mut W, out: &[u8], filled: usize) -> io::Result<()>
     requires { HandsRows out.now filled }
-    ensures { result ≡ true → Appends (W.contents writer.old) (W.contents writer.new) (take filled out.now) }
+    ensures { OnOk result (Appends (W.contents writer.old) (W.contents writer.new) (take filled out.now)) }
 {
-    writer.write_all(&out[..filled]).is_ok()
+    writer.write_all(&out[..filled])
 }
 
-// Writes the table's header, and answers whether all of it was written.
-fn write_header<W: Write>(writer: &mut W) -> bool
-    ensures { result ≡ true → Appends (W.contents writer.old) (W.contents writer.new) header }
+// Writes the table's header.
+fn write_header<W: Write>(writer: &mut W) -> io::Result<()>
+    ensures { OnOk result (Appends (W.contents writer.old) (W.contents writer.new) header) }
 {
-    writer
-        .write_all(b"call answer held bytes cached dropped\n")
-        .is_ok()
+    writer.write_all(b"call answer held bytes cached dropped\n")
 }
 
 // Reads more of the input behind the first bytes of the buffer, and answers how many bytes then stand in it: no more
@@ -76,11 +78,10 @@ fn run_input<R: Read, W: Write>(
 {
     let mut kept: usize = 0;
     let mut opened = false;
-    let mut reads = MOST_READS;
-    while 0 < reads {
+    for _ in 0..MOST_READS {
         let n = read_more(reader, buffer, kept);
         let turn = take_turn(words, bytes, buffer, kept, n, opened, out);
-        if !write_rows(writer, out, turn.filled) {
+        if write_rows(writer, out, turn.filled).is_err() {
             return Ended::Write;
         }
         if turn.bad {
@@ -91,16 +92,15 @@ fn run_input<R: Read, W: Write>(
         }
         kept = turn.kept;
         opened = turn.opened;
-        reads -= 1;
     }
     Ended::Reads
 }
 
-// Room for the bytes that are read.
-fn read_room() -> [u8; 4096]
-    ensures { 4096 ≡ length result }
+// An array whose length a proof knows.
+fn filled<T: Copy, const N: usize>(value: T) -> [T; N]
+    ensures { N ≡ length result }
 {
-    [0; 4096]
+    [value; N]
 }
 
 // Runs the program: writes the header, and carries out the list.
@@ -108,11 +108,11 @@ pub fn run<R: Read, W: Write>(reader: &mut R, writer: &mut W) -> Ended
     ensures { RunsProgram (R.remaining reader.old) (W.contents writer.old) result
         (R.remaining reader.new) (W.contents writer.new) }
 {
-    let mut words = word_area();
-    let mut bytes = byte_area();
-    let mut buffer = read_room();
-    let mut out = rows_room();
-    if !write_header(writer) {
+    let mut words = filled::<u64, WORDS>(0);
+    let mut bytes = filled::<u8, BYTES>(0);
+    let mut buffer = filled::<u8, BUFFER>(0);
+    let mut out = filled::<u8, ROWS>(0);
+    if write_header(writer).is_err() {
         return Ended::Write;
     }
     run_input(
