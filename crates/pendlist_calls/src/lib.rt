@@ -138,16 +138,3 @@ pub fn run_line(words: &mut [u64], bytes: &mut [u8], opened: bool, line: &[u8]) 
         None => Outcome::Bad,
     }
 }
-
-// The areas: document 01 gives their lengths.
-pub fn word_area() -> [u64; 4096]
-    ensures { 4096 ≡ length result }
-{
-    [0; 4096]
-}
-
-pub fn byte_area() -> [u8; 16384]
-    ensures { 16384 ≡ length result }
-{
-    [0; 16384]
-}

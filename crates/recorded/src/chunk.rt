@@ -1,14 +1,12 @@
 // A text that is longer than the buffer: whole lines are used up, and what follows them moves to the front.
-ghost use Rattle.std.specs.Prelude.{◌≡◌, ◌-◌, ◌≤◌, length};
+ghost use Rattle.std.specs.Prelude.{◌≡◌, ◌-◌, ◌≤◌, length, take};
+ghost use Rattle.std.specs.List.{copy_within};
+ghost use Rattle.pendlist_input.specs.Input.{whole_lines};
 
 use std::io::Read;
 
-// Room for a part of a text.
-pub fn large_buffer() -> [u8; 65536]
-    ensures { 65536 ≡ length result }
-{
-    [0; 65536]
-}
+// The length of a buffer for a part of a text.
+pub const BUFFER: usize = 65536;
 
 // One read into the buffer, and how many bytes it brought. A read that fails brings none.
 fn read_some<R: Read>(reader: &mut R, buffer: &mut [u8]) -> usize
@@ -47,28 +45,18 @@ pub fn fill<R: Read>(reader: &mut R, buffer: &mut [u8], kept: usize) -> usize
 // The length of the whole lines among the first n bytes.
 pub fn whole_lines(buffer: &[u8], n: usize) -> usize
     requires { n ≤ length buffer.now }
-    ensures { result ≤ n }
+    ensures last { result ≡ whole_lines (take n buffer.now) }
+    ensures within { result ≤ n }
 {
-    let mut end = n;
-    while 0 < end {
-        if buffer[end - 1] == b'\n' {
-            return end;
-        }
-        end -= 1;
-    }
-    0
+    pendlist_input::whole_lines(&buffer[..n])
 }
 
 // Moves the bytes from `from` up to `end` to the front, and answers how many they are.
 pub fn move_to_front(buffer: &mut [u8], from: usize, end: usize) -> usize
     requires { (from ≤ end) × (end ≤ length buffer.old) }
-    ensures { result ≡ end - from }
+    ensures count { result ≡ end - from }
+    ensures moved { buffer.new ≡ copy_within buffer.old from end 0 }
 {
-    let n = end - from;
-    let mut i: usize = 0;
-    while i < n {
-        buffer[i] = buffer[from + i];
-        i += 1;
-    }
-    n
+    buffer.copy_within(from..end, 0);
+    end - from
 }

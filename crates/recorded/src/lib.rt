@@ -7,7 +7,7 @@ mod tally;
 ghost use Rattle.std.specs.Prelude.{◌<◌, ◌≤◌, length};
 ghost use Rattle.recorded.specs.Progress.{Onward};
 
-pub use chunk::{fill, large_buffer, move_to_front, read_full, whole_lines};
+pub use chunk::{BUFFER, fill, move_to_front, read_full, whole_lines};
 pub use tally::Tally;
 
 // A number of the text, and where the text goes on after it.
@@ -20,58 +20,36 @@ pub struct Number {
 // A replay reads at most so many buffers.
 pub const BUFFERS: usize = 65536;
 
-const MOST: u64 = 18446744073709551615;
-
-fn is_digit(c: u8) -> bool {
-    if c < b'0' {
-        return false;
-    }
-    c <= b'9'
-}
-
-// The number with one more decimal digit, or 2^64 - 1 where that is less.
-fn with_digit(value: u64, c: u8) -> u64 {
-    let digit = (c % 16 % 10) as u64;
-    if MOST / 10 < value {
-        return MOST;
-    }
-    if MOST - value * 10 < digit {
-        return MOST;
-    }
-    value * 10 + digit
-}
-
 // The place of the first digit at or after `at`, or the text's end.
 pub fn first_digit(text: &[u8], at: usize) -> usize
     requires { at ≤ length text.now }
     ensures { Onward at result (length text.now) }
 {
-    let mut i = at;
-    while i < text.len() {
-        if is_digit(text[i]) {
-            return i;
-        }
-        i += 1;
+    match text[at..].iter().position(|byte| byte.is_ascii_digit()) {
+        Some(i) => at + i,
+        None => text.len(),
     }
-    i
 }
 
-// The digits from `at` on, read as one number.
+// The digits from `at` on, read as one number: 2^64 - 1 where it is larger.
 fn digits(text: &[u8], at: usize) -> Number
     requires { at ≤ length text.now }
     ensures { Onward at result.next (length text.now) }
 {
     let mut value: u64 = 0;
-    let mut i = at;
-    while i < text.len() {
-        let c = text[i];
-        if !is_digit(c) {
-            return Number { value, next: i };
+    for next in at..text.len() {
+        let byte = text[next];
+        if !byte.is_ascii_digit() {
+            return Number { value, next };
         }
-        value = with_digit(value, c);
-        i += 1;
+        value = value
+            .saturating_mul(10)
+            .saturating_add((byte - b'0') as u64);
     }
-    Number { value, next: i }
+    Number {
+        value,
+        next: text.len(),
+    }
 }
 
 // The next number at or after `at`; where there is none, 0 and the text's end.

@@ -1,19 +1,12 @@
 // What a replay counts and prints.
 ghost use Rattle.std.specs.Prelude.{◌≡◌};
-ghost use Rattle.recorded.specs.Count.{opened, one_more, with_row};
+ghost use Rattle.recorded.specs.Count.{opened, with_row};
 
 // How many rows were run, and how many of them differ from what was recorded.
 #[derive(Clone, Copy)]
 pub struct Tally {
     pub rows: u64,
     pub differ: u64,
-}
-
-// One more, up to 2^64 - 1.
-fn next_count(n: u64) -> u64
-    ensures { result ≡ one_more n }
-{
-    if n < 18446744073709551615 { n + 1 } else { n }
 }
 
 impl Tally {
@@ -27,7 +20,7 @@ impl Tally {
     pub fn with_row(self, rt: &impl Print, same: bool) -> Self
         ensures { result ≡ with_row self same }
     {
-        let rows = next_count(self.rows);
+        let rows = self.rows.saturating_add(1);
         if same {
             return Self {
                 rows,
@@ -37,7 +30,7 @@ impl Tally {
         let _ = println!(rt; "differs: row {rows}");
         Self {
             rows,
-            differ: next_count(self.differ),
+            differ: self.differ.saturating_add(1),
         }
     }
 
