@@ -13,7 +13,7 @@ use borrow.Author.Tests.{eq-eqb, ne_eqb}
 use Rattle.output_fields.specs.declared.Layout.{Layout}
 use Rattle.output_fields.specs.declared.Layout.TheVariants.{Fixed, One, Several}
 use Rattle.output_fields.specs.Layout.{has_variable, behind_fixed, layout_of}
-use Rattle.output_fields.proofs.Tails.{tail_is_drop}
+use Rattle.std.proofs.lemmas.List.{take_rest}
 
 either_cond : (a b : Bool) → (a || b) ≡ cond a true b
 either_cond true b = refl
@@ -63,7 +63,7 @@ module _ {ws : List ℕ} {lead i : ℕ} (inv : LeadPassed ws lead i) (h : i < le
     unfolding layout_of
     layout_here =
         inv.left
-        ∙ rw (f, tail_is_drop (i + 1) ws, add-one, drop-cons ws i 0, eq-eqb (get_or ws i 0) 65535 (sym e ∙ k))
+        ∙ rw (f, take_rest ws (i + 1), add-one, drop-cons ws i 0, eq-eqb (get_or ws i 0) 65535 (sym e ∙ k))
 
     pub several_found : b ≡ true → Several ≡ layout_of ws
     several_found g = sym (layout_here ∙ rw g)

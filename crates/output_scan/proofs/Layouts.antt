@@ -3,7 +3,6 @@ use mathlib.Core.Path.{◌≡◌, refl}
 use mathlib.Core.Bool.{Bool, true, false, cond}
 use mathlib.Core.List.{List, [], ◌∷◌}
 use Prim.Native.Nat.{ℕ}
-use native.Mathlib.Omega.{arith}
 use Rattle.wire.specs.declared.Reading.TheVariants.{IpfixVariable}
 use Rattle.wire.specs.Size.{is_variable}
 use Rattle.output_fields.specs.declared.Layout.{Layout}
@@ -19,10 +18,7 @@ no_variable_plain (w ∷ ws) e = by_kind (is_variable w IpfixVariable) refl e (n
     by_kind : (b : Bool) → is_variable w IpfixVariable ≡ b → cond b true (has_variable ws) ≡ false →
         (has_variable ws ≡ false → Plain ws IpfixVariable) →
         (is_variable w IpfixVariable ≡ false) × Plain ws IpfixVariable
-    by_kind true f g ih = absurd (never g)
-      where
-        never : true ≡ false → ⊥
-        never g = let z : ◌≡◌ {A = ℕ} 0 1 = cc in omega arith
+    by_kind true f g ih = cc
     by_kind false f g ih = (f, ih g)
 
 pub fixed_plain : (ws : List ℕ) → layout_of ws ≡ Fixed → Plain ws IpfixVariable
@@ -31,13 +27,13 @@ fixed_plain [] e = tt
 fixed_plain (w ∷ ws) e = by_kind (is_variable w IpfixVariable) refl e (fixed_plain ws)
   where
     not_one : (b : Bool) → cond b Several (One 0) ≡ Fixed → ⊥
-    not_one true e = let z : ◌≡◌ {A = ℕ} 0 1 = cc in omega arith
-    not_one false e = let z : ◌≡◌ {A = ℕ} 0 1 = cc in omega arith
+    not_one true e = cc
+    not_one false e = cc
 
     behind : (x : Layout) → behind_fixed w x ≡ Fixed → x ≡ Fixed
     behind Fixed e = refl
-    behind (One lead) e = absurd (let z : ◌≡◌ {A = ℕ} 0 1 = cc in omega arith)
-    behind Several e = absurd (let z : ◌≡◌ {A = ℕ} 0 1 = cc in omega arith)
+    behind (One lead) e = cc
+    behind Several e = cc
 
     by_kind : (b : Bool) → is_variable w IpfixVariable ≡ b →
         cond b (cond (has_variable ws) Several (One 0)) (behind_fixed w (layout_of ws)) ≡ Fixed →

@@ -132,10 +132,6 @@ module _ {body ws : List ℕ} {r : Reading} {limit : ℕ} {rest : List ℕ} {k p
   at_limit h = let z : limit - k ≡ 0 = omega arith in inv.left
       ∙ rw (z, scan_none rest ws r) (same_figures_lem (omega arith) (omega arith) refl)
 
--- each record leaves fewer to come
-pub fewer_left : {k limit : ℕ} → k < limit → limit - (k + 1) < limit - k
-fewer_left h = omega arith
-
 -- no more records than bytes
 records_few : (bytes ws : List ℕ) (r : Reading) (k : ℕ) → (scan_of bytes ws r k).records ≤ length bytes
 records_few bytes ws r zero = rw (scan_none bytes ws r) (omega arith)

@@ -17,7 +17,8 @@ use Rattle.output_fields.specs.Field.{Whole, Cut, span_of, variable_field, field
 use Rattle.output_scan.specs.Scan.{fields_of, record_of}
 use Rattle.output_scan.proofs.Fields.{short_prefix, cut_prefix, long_prefix, FieldsPassed}
 use Rattle.output_scan.proofs.Fields.{no_field_passed, field_passed, field_cut, all_passed}
-use Rattle.output_fields.proofs.Tails.{tail_is_drop, tail_length}
+use Rattle.std.proofs.lemmas.List.{take_rest}
+use Rattle.output_fields.proofs.Tails.{tail_length}
 use Rattle.output_scan.proofs.Least.{fields_least, too_short}
 use Rattle.output_scan.proofs.Records.{takes_some}
 
@@ -65,7 +66,7 @@ module _ (bytes : List ℕ) (at : ℕ) {b : ℕ} (h : at < length bytes) (e : b 
 pub part_of_part : (a n : ℕ) (xs : List ℕ) →
     take (length (take (length xs - a) (drop a xs)) - n) (drop n (take (length xs - a) (drop a xs))) ≡ drop (a + n) xs
 part_of_part a n xs =
-    tail_is_drop n (take (length xs - a) (drop a xs)) ∙ ap (drop n) (tail_is_drop a xs) ∙ drop-drop n a xs
+    take_rest (take (length xs - a) (drop a xs)) n ∙ ap (drop n) (take_rest xs a) ∙ drop-drop n a xs
 
 -- The fields passed, and the bytes that the record leaves if the fields that are left take no more than the least.
 pub record FieldsSpared (bytes ws next : List ℕ) (at prefixes i : ℕ) : Type 0 where
@@ -85,7 +86,7 @@ none_spared {bytes} {ws} {least} e h =
       passed = no_field_passed bytes ws IpfixVariable;
       few = omega arith;
       room = omega arith;
-      spare = tail_is_drop least bytes ∙ ap (λ (n : ℕ). drop n bytes) f;
+      spare = take_rest bytes least ∙ ap (λ (n : ℕ). drop n bytes) f;
     }
 
 module _ {bytes ws next : List ℕ} {at prefixes i : ℕ} (inv : FieldsSpared bytes ws next at prefixes i) where
@@ -196,7 +197,7 @@ module _ {bytes ws next : List ℕ} {at prefixes i : ℕ} (inv : FieldsSpared by
           FieldsSpared bytes ws (take (length next - b) (drop b next)) (at + (1 + b)) (prefixes + 1) (i + 1)
       short_spared l m =
           let z : b ≡ 1 - 1 + b = omega arith in
-          variable_spared k (short_here l) (omega arith) (tail_is_drop b next ∙ ap (λ (n : ℕ). drop n next) z)
+          variable_spared k (short_here l) (omega arith) (take_rest next b ∙ ap (λ (n : ℕ). drop n next) z)
 
       pub short_cut : b < 255 → length next < b → fields_of bytes ws IpfixVariable ≡ Cut
       short_cut l m = variable_cut k (short_here l) (omega arith)

@@ -47,7 +47,7 @@ pub record Alone (bytes ws next : List ℕ) (at : ℕ) : Type 0 where
 find_alone : {bytes ws next : List ℕ} (vs : List ℕ) {at lead i : ℕ} → drop i ws ≡ vs →
     FieldsSpared bytes ws next at 0 i → layout_of vs ≡ One lead → Alone bytes ws next (at + lead)
 unfolding layout_of
-find_alone [] e inv f = absurd (let z : ◌≡◌ {A = ℕ} 0 1 = cc in omega arith)
+find_alone [] e inv f = cc
 find_alone {bytes} {ws} {next} (w ∷ vs) {at} {lead} {i} e inv f = by_kind (is_variable w IpfixVariable) refl f
     (λ l g. find_alone vs (widths_left ws i e) g)
   where
@@ -60,7 +60,7 @@ find_alone {bytes} {ws} {next} (w ∷ vs) {at} {lead} {i} e inv f = by_kind (is_
       where
         by_others : (b : Bool) → has_variable vs ≡ b → cond b Several (One 0) ≡ One lead →
             Alone bytes ws next (at + lead)
-        by_others true o u = absurd (let z : ◌≡◌ {A = ℕ} 0 1 = cc in omega arith)
+        by_others true o u = cc
         by_others false o u =
             let z : 0 ≡ lead = cc in
             let t : at + lead ≡ at = omega arith in
@@ -75,8 +75,8 @@ find_alone {bytes} {ws} {next} (w ∷ vs) {at} {lead} {i} e inv f = by_kind (is_
     by_kind false k g ih = by_layout (layout_of vs) refl g
       where
         by_layout : (x : Layout) → layout_of vs ≡ x → behind_fixed w x ≡ One lead → Alone bytes ws next (at + lead)
-        by_layout Fixed o u = absurd (let z : ◌≡◌ {A = ℕ} 0 1 = cc in omega arith)
-        by_layout Several o u = absurd (let z : ◌≡◌ {A = ℕ} 0 1 = cc in omega arith)
+        by_layout Fixed o u = cc
+        by_layout Several o u = cc
         by_layout (One l) o u =
             let z : w + l ≡ lead = cc in
             let t : at + lead ≡ at + w + l = omega arith in

@@ -16,8 +16,7 @@ pub fn scan_variable_body(body: &[u8], widths: &[u16], least: usize, max_records
     requires { (length widths.now ≤ 65535) × (least ≡ least_size widths.now IpfixVariable) × (0 < least) }
     ensures { result ≡ scan_of body.now widths.now IpfixVariable max_records }
 {
-    let layout = layout_of(widths);
-    match layout {
+    match layout_of(widths) {
         Layout::Fixed => scan_fixed_body(body.len(), least, max_records),
         Layout::One { lead } => scan_one_variable(body, widths, lead, least, max_records),
         Layout::Several => scan_fields(body, widths, least, max_records),

@@ -1,4 +1,5 @@
-use mathlib.Core.Path.{refl, sym}
+use borrow.Author.Rules.{rules}
+use mathlib.Core.Path.{sym}
 use native.Mathlib.Omega.{arith}
 use Rattle.output_scan.proofs.Least.{too_short}
 use Rattle.output_scan.proofs.Records.{cut_field, record_passed}
@@ -9,30 +10,19 @@ use Rattle.output_scan.proofs.Spare.{all_spared, rest_spared}
 use Rattle.output_scan_several.proofs.scan_fields.Goals as goal
 
 pub fields-preserved-then-width : goal.fields-preserved-then-width
-fields-preserved-then-width c = fixed_spared c.fields.invariant c.fields-test.true refl c.if-width.true
+fields-preserved-then-width c = search (fixed_spared, rules)
 
 pub byte_at-short-requires : goal.byte_at-short-requires
-byte_at-short-requires c = omega (arith, starts_inside c.fields.invariant c.fields-test.true c.if-width.false)
+byte_at-short-requires c = search (starts_inside, rules)
 
 pub fields-preserved-then-short-lt255 : goal.fields-preserved-then-short-lt255
-fields-preserved-then-short-lt255 c =
-    short_spared c.fields.invariant c.fields-test.true c.if-width.false
-    c.byte_at-short.ensures.0 c.if-short-lt255.true c.if-next-short.false
+fields-preserved-then-short-lt255 c = search (short_spared, rules)
 
 pub long_length-long-requires : goal.long_length-long-requires
-long_length-long-requires c =
-    omega (
-      arith,
-      long_inside c.fields.invariant c.fields-test.true c.if-width.false
-          c.byte_at-short.ensures.0 c.if-short-lt255.false c.byte_at-short.ensures.1
-          c.if-next-lt2.false,
-    )
+long_length-long-requires c = search (long_inside, rules)
 
 pub fields-preserved : goal.fields-preserved
-fields-preserved c =
-    long_spared c.fields.invariant c.fields-test.true c.if-width.false
-    c.byte_at-short.ensures.0 c.if-short-lt255.false c.byte_at-short.ensures.1 c.if-next-lt2.false
-    c.long_length-long.ensures.0 c.if-next-long.false
+fields-preserved c = search (long_spared, rules)
 
 pub records-preserved : goal.records-preserved
 records-preserved c =
@@ -41,7 +31,7 @@ records-preserved c =
     (rest_spared c.fields.invariant c.fields-test.false)
 
 pub returns-after-records : goal.returns-after-records
-returns-after-records c = sym (at_limit c.records.invariant c.records-test.false)
+returns-after-records c = sym (search (at_limit, rules))
 
 pub returns-then-rest-least : goal.returns-then-rest-least
 returns-then-rest-least c =
@@ -49,20 +39,10 @@ returns-then-rest-least c =
     (cut_field _ _ _ (too_short _ _ _ (omega (arith, c.requires.0)))))
 
 pub returns-then-next-short : goal.returns-then-next-short
-returns-then-next-short c =
-    sym (stopped c.records.invariant c.records-test.true
-    (cut_field _ _ _ (short_cut c.fields.invariant c.fields-test.true c.if-width.false
-    c.byte_at-short.ensures.0 c.if-short-lt255.true c.if-next-short.true)))
+returns-then-next-short c = sym (search (stopped, cut_field, short_cut, rules))
 
 pub returns-then-next-lt2 : goal.returns-then-next-lt2
-returns-then-next-lt2 c =
-    sym (stopped c.records.invariant c.records-test.true
-    (cut_field _ _ _ (prefix_cut c.fields.invariant c.fields-test.true c.if-width.false
-    c.byte_at-short.ensures.0 c.if-short-lt255.false c.byte_at-short.ensures.1 c.if-next-lt2.true)))
+returns-then-next-lt2 c = sym (search (stopped, cut_field, prefix_cut, rules))
 
 pub returns-then-next-long : goal.returns-then-next-long
-returns-then-next-long c =
-    sym (stopped c.records.invariant c.records-test.true
-    (cut_field _ _ _ (long_cut c.fields.invariant c.fields-test.true c.if-width.false
-    c.byte_at-short.ensures.0 c.if-short-lt255.false c.byte_at-short.ensures.1 c.if-next-lt2.false
-    c.long_length-long.ensures.0 c.if-next-long.true)))
+returns-then-next-long c = sym (search (stopped, cut_field, long_cut, rules))
