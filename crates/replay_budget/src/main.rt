@@ -13,7 +13,7 @@ use calls::{Told, run_call};
 use output_budget::DecodedOutputBudget;
 use output_preflight::{FieldValues, PayloadBytes};
 use recorded::{
-    BUFFERS, Tally, fill, first_digit, large_buffer, move_to_front, next_number, whole_lines,
+    BUFFER, BUFFERS, Tally, fill, first_digit, move_to_front, next_number, whole_lines,
 };
 
 // The rows run so far, and the budget that the next call goes on with.
@@ -97,7 +97,7 @@ fn run_wrong_rows(rt: &impl Print) {
 fn main(rt: HostRuntime) {
     run_wrong_rows(&rt);
     let mut reader = rt.reader();
-    let mut room = large_buffer();
+    let mut room = [0u8; BUFFER];
     let buffer: &mut [u8] = &mut room;
     let mut replay = begin();
     let mut kept = 0;

@@ -8,7 +8,7 @@ mod wrong;
 
 ghost use Rattle.std.specs.Prelude.{◌≤◌, length};
 
-use recorded::{BUFFERS, fill, large_buffer, move_to_front, whole_lines};
+use recorded::{BUFFER, BUFFERS, fill, move_to_front, whole_lines};
 use replay::{Replay, begin, print_replay, run_rows};
 use wrong::run_wrong_rows;
 
@@ -41,7 +41,7 @@ fn main(rt: HostRuntime) {
     let mut words = [0u64; WORDS];
     let mut bytes = [0u8; BYTES];
     let mut offered = [0u64; OFFERED];
-    let mut room = large_buffer();
+    let mut room = [0u8; BUFFER];
     let buffer: &mut [u8] = &mut room;
     let mut replay = begin();
     let mut kept: usize = 0;

@@ -1,10 +1,8 @@
 // Rows run on the areas, one after another.
-ghost use Rattle.std.specs.Prelude.{◌≤◌, length};
-ghost use Rattle.recorded.specs.Progress.{Onward};
+ghost use Rattle.std.specs.Prelude.{◌≤◌};
 
 use super::compare::{Verdict, compare, is_same};
 use recorded::Tally;
-use pendlist_input::line_end;
 use recorded_cache::{Answered, Call, KEPT, OFFERS, Row, read_row, run_call};
 
 // The rows and lists run so far, and the lengths of the areas and the offers of the list that is open.
@@ -124,15 +122,9 @@ pub fn run_rows(
     replay: Replay,
 ) -> Replay {
     let mut replay = replay;
-    let mut at: usize = 0;
-    while at < text.len() {
-        let rest = &text[at..];
-        let end = line_end(rest);
-        replay = run_row(rt, words, bytes, offered, &rest[..end], replay);
-        if end == rest.len() {
-            break;
-        }
-        at += end + 1;
+    for line in text.split_inclusive(|byte| *byte == b'\n') {
+        let line = line.strip_suffix(b"\n").unwrap_or(line);
+        replay = run_row(rt, words, bytes, offered, line, replay);
     }
     replay
 }

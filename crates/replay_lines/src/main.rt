@@ -8,43 +8,40 @@
 
 mod compare;
 
-ghost use Rattle.std.specs.Prelude.{◌≤◌, length};
-
 use compare::{same_outcome, same_reading};
-use pendlist_calls::{byte_area, run_line, word_area};
-use pendlist_input::line_end;
+use pendlist_calls::run_line;
 use pendlist_lines::parse_line;
 use pendlist_rows::Outcome;
-use recorded::{Tally, large_buffer, read_full};
+use recorded::{BUFFER, Tally, read_full};
+
+// The lengths of the areas of the program.
+const WORDS: usize = 4096;
+
+const BYTES: usize = 16384;
 
 // A line as the first of an input.
 fn run_first(line: &[u8]) -> Outcome {
-    let mut words = word_area();
-    let mut bytes = byte_area();
+    let mut words = [0u64; WORDS];
+    let mut bytes = [0u8; BYTES];
     run_line(&mut words, &mut bytes, false, line)
 }
 
 // A line after `c`.
 fn run_second(line: &[u8]) -> Outcome {
-    let mut words = word_area();
-    let mut bytes = byte_area();
+    let mut words = [0u64; WORDS];
+    let mut bytes = [0u8; BYTES];
     run_line(&mut words, &mut bytes, false, b"c 2 2 10 16 100");
     run_line(&mut words, &mut bytes, true, line)
 }
 
 // Whether the line comes to what is expected.
 fn same(expected: &[u8], line: &[u8]) -> bool {
-    if expected.len() == 0 {
-        return false;
+    match expected.split_first() {
+        None => false,
+        Some((b'1', rest)) => same_outcome(run_first(line), rest),
+        Some((b'2', rest)) => same_outcome(run_second(line), rest),
+        Some(_) => same_reading(parse_line(line), expected),
     }
-    let how = expected[0];
-    if how == b'1' {
-        return same_outcome(run_first(line), &expected[1..]);
-    }
-    if how == b'2' {
-        return same_outcome(run_second(line), &expected[1..]);
-    }
-    same_reading(parse_line(line), expected)
 }
 
 // A row is wrong where it has no bar.
@@ -56,25 +53,12 @@ fn same_row(row: &[u8]) -> bool {
     same(&row[..bar], &row[from..])
 }
 
-// Where the row that begins at `at` ends.
-fn row_end(text: &[u8], at: usize) -> usize
-    requires { at ≤ length text.now }
-    ensures { (at ≤ result) × (result ≤ length text.now) }
-{
-    at + line_end(&text[at..])
-}
-
 // Runs the rows of a text.
 fn run_rows(rt: &impl Print, text: &[u8]) -> Tally {
     let mut tally = Tally::new();
-    let mut at: usize = 0;
-    while at < text.len() {
-        let end = row_end(text, at);
-        tally = tally.with_row(rt, same_row(&text[at..end]));
-        if end == text.len() {
-            break;
-        }
-        at = end + 1;
+    for row in text.split_inclusive(|byte| *byte == b'\n') {
+        let row = row.strip_suffix(b"\n").unwrap_or(row);
+        tally = tally.with_row(rt, same_row(row));
     }
     tally
 }
@@ -91,7 +75,7 @@ fn run_wrong_rows(rt: &impl Print) {
 
 fn main(rt: HostRuntime) {
     run_wrong_rows(&rt);
-    let mut buffer = large_buffer();
+    let mut buffer = [0u8; BUFFER];
     let n = read_full(&mut rt.reader(), &mut buffer);
     let tally = run_rows(&rt, &buffer[..n]);
     tally.print(&rt);

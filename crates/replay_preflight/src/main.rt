@@ -8,7 +8,9 @@ ghost use Rattle.std.specs.Prelude.{◌≤◌, ◌≡◌, length};
 ghost use Rattle.replay_preflight.specs.Same.{same_figures};
 
 use output_preflight::{Figures, answer_figures};
-use recorded::{BUFFERS, Tally, fill, first_digit, move_to_front, next_number, whole_lines};
+use recorded::{
+    BUFFER, BUFFERS, Tally, fill, first_digit, move_to_front, next_number, whole_lines,
+};
 use wire::Reading;
 
 // A row's end in the text, and whether the answer is the recorded one.
@@ -140,7 +142,7 @@ fn run_wrong_rows(rt: &impl Print) {
 fn main(rt: HostRuntime) {
     run_wrong_rows(&rt);
     let mut reader = rt.reader();
-    let mut buffer = [0u8; 65536];
+    let mut buffer = [0u8; BUFFER];
     let mut tally = Tally::new();
     let mut kept: usize = 0;
     for _ in 0..BUFFERS {
