@@ -1,6 +1,8 @@
 // The cache's table in the lent words: a header, entries for bodies, records for templates (docs/LAYOUT.md).
 #![tactic(auto)]
 
+ghost use Rattle.std.specs.Prelude.{◌≡◌};
+
 mod layout;
 mod reads;
 
@@ -30,6 +32,15 @@ pub struct TemplateRecord {
 // The lent areas hold no cache: number 28.
 #[derive(Clone, Copy, Debug, PartialEq, Eq)]
 pub struct Damaged;
+
+// Document 01's number of it.
+impl From<Damaged> for u32 {
+    ghost from_gives = { λ _ number. number ≡ 28 };
+
+    fn from(_damaged: Damaged) -> u32 {
+        28
+    }
+}
 
 // The bodies of a label that are not expired: how many, and their lengths together, which wrap.
 #[derive(Clone, Copy)]
