@@ -76,15 +76,14 @@ module _ (l : PendingFlowsConfig) (w b : List ℕ) (ok : config_number l (length
       )
 
 -- a refused opening changes nothing
-pub opening_refused : (l : PendingFlowsConfig) (w b : List ℕ) (a : Result ⊤ ConfigRefusal) (n : ConfigRefusal) → a ≡ Err n →
-    answer_number a ≡ config_number l (length b) (length w) → Opens l (areas_of w b) a (areas_of w b)
+pub opening_refused : (l : PendingFlowsConfig) (w b : List ℕ) {r : Result ⊤ ConfigRefusal} {n : ConfigRefusal} →
+    refusal_number n ≡ config_number l (length b) (length w) → r ≡ Err n → Opens l (areas_of w b) r (areas_of w b)
 unfolding opening
-opening_refused l w b a n e f =
-    let g : config_number l (length b) (length w) ≡ refusal_number n = sym f ∙ ap answer_number e in
-    let no : eqb (config_number l (length b) (length w)) 0 ≡ false = rw g (not_zero n) in
-    rw e
+opening_refused l w b {n = n} e is =
+    let no : eqb (config_number l (length b) (length w)) 0 ≡ false = rw (← e) (not_zero n) in
+    rw is
     (record {
-      answer = rw (no, g);
+      answer = rw (no, ← e);
       holds = rw no;
       refused = λ _. refl;
       bytes = refl;
@@ -99,27 +98,25 @@ opening_refused l w b a n e f =
     not_zero TotalBytes = refl
     not_zero Areas = refl
 
--- an accepted one writes the header
-pub opening_done : (l : PendingFlowsConfig) (w b w' : List ℕ) (a : Result ⊤ ConfigRefusal) → a ≡ (Ok tt) →
-    answer_number a ≡ config_number l (length b) (length w) → w' ≡ overwritten w (opened_header l) →
-    Opens l (areas_of w b) a (areas_of w' b)
-unfolding overwritten opening
-opening_done l w b w' a e f g =
-    let ok : config_number l (length b) (length w) ≡ 0 = sym f ∙ ap answer_number e in
-    rw (g, e)
-    (record {
-      answer = rw ok;
-      holds = rw ok (newly_opened l w b ok);
-      refused = λ h. absurd (h refl);
-      bytes = refl;
-      frame = λ _. behind l w b ok;
-      long = same_length l w b ok;
-    })
+module _ (l : PendingFlowsConfig) (w b : List ℕ) (e : 0 ≡ config_number l (length b) (length w)) where
+  -- an accepted one writes the header
+  pub opening_done : {w' : List ℕ} → w' ≡ overwritten w (opened_header l) →
+      Opens l (areas_of w b) (Ok tt) (areas_of w' b)
+  unfolding overwritten opening
+  opening_done g =
+      rw g
+      (record {
+        answer = rw (← e);
+        holds = rw (← e) (newly_opened l w b (sym e));
+        refused = λ h. absurd (h refl);
+        bytes = refl;
+        frame = λ _. behind l w b (sym e);
+        long = same_length l w b (sym e);
+      })
 
--- legal limits leave room for the header
-pub header_fits : (l : PendingFlowsConfig) (w b : List ℕ) (a : Result ⊤ ConfigRefusal) → a ≡ (Ok tt) →
-    answer_number a ≡ config_number l (length b) (length w) → header_words ≤ length w
-header_fits l w b a e f = omega (arith, room l w b (sym f ∙ ap answer_number e))
+  -- legal limits leave room for the header
+  pub header_fits : header_words ≤ length w
+  header_fits = omega (arith, room l w b (sym e))
 
 -- the header from its parts
 pub header_written : (l : PendingFlowsConfig) (f : HeaderFigures) (w w' : List ℕ) (set ttl : ℕ) →

@@ -4,7 +4,7 @@ ghost use Rattle.areas.specs.Overwrite.{overwritten};
 ghost use Rattle.config.specs.Limits.{header_words};
 ghost use Rattle.pending_flows.specs.Header.{ttl_flag, ttl_word, figures_at, header_of};
 
-use config::{PendingFlowsConfig};
+use config::PendingFlowsConfig;
 use table::{CACHED, CHANCE_COUNT, DROPPED, ENTRY_COUNT, HELD_COUNT, TOTAL};
 
 // The header's words behind the limits.
@@ -23,20 +23,14 @@ pub struct HeaderFigures {
 fn ttl_set(ttl: Option<u64>) -> u64
     ensures { result ≡ ttl_flag ttl }
 {
-    match ttl {
-        None => 0,
-        Some(_) => 1,
-    }
+    ttl.is_some() as u64
 }
 
 // The TTL, or 0 where none is set.
 fn ttl_word(ttl: Option<u64>) -> u64
     ensures { result ≡ ttl_word ttl }
 {
-    match ttl {
-        None => 0,
-        Some(ttl) => ttl,
-    }
+    ttl.unwrap_or(0)
 }
 
 // The figures that the header holds.

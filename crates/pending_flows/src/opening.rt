@@ -3,17 +3,14 @@ ghost use Rattle.pending_flows.specs.View.{areas_of};
 ghost use Rattle.pending_flows.specs.Opening.{Opens};
 
 use super::header::{HeaderFigures, write_header};
-use config::{PendingFlowsConfig};
+use config::{ConfigRefusal, PendingFlowsConfig};
 
 // Opens an empty cache with both counters 0 in areas with any content, or refuses the limits.
 pub fn open(config: PendingFlowsConfig, words: &mut [u64], bytes: &[u8]) -> Result<(), ConfigRefusal>
     ensures { Opens config (areas_of words.old bytes.now) result
         (areas_of words.new bytes.now) }
 {
-    let answer = config::validate_config(config, bytes.len(), words.len());
-    let Ok(()) = answer else {
-        return answer;
-    };
+    config::validate_config(config, bytes.len(), words.len())?;
     let empty = HeaderFigures {
         cached: 0,
         dropped: 0,
@@ -23,5 +20,5 @@ pub fn open(config: PendingFlowsConfig, words: &mut [u64], bytes: &[u8]) -> Resu
         chance: 0,
     };
     write_header(words, config, empty);
-    answer
+    Ok(())
 }

@@ -2,12 +2,11 @@ use Rattle.pending_flows.proofs.Openings.{opening_refused, header_fits, opening_
 use borrow.Author.Rules.{rules}
 use Rattle.pending_flows.proofs.opening.open.Goals as goal
 
-pub returns-in_default : goal.returns-in_default
-returns-in_default c = opening_refused _ _ _ _ _ c.in_default.is c.validate_config-answer.ensures
+pub returns-in_err-validate_config : goal.returns-in_err-validate_config
+returns-in_err-validate_config c = opening_refused _ _ _ c.in_err-validate_config.ensures (search rules)
 
 pub write_header-requires : goal.write_header-requires
-write_header-requires c = search (header_fits, rules)
+write_header-requires c = header_fits _ _ _ c.in_ok-validate_config.ensures
 
 pub returns : goal.returns
-returns c = opening_done _ _ _ _ _ c.in-Accepted.is c.validate_config-answer.ensures
-    c.write_header.ensures
+returns c = opening_done _ _ _ c.in_ok-validate_config.ensures c.write_header.ensures
