@@ -4,10 +4,8 @@ use Rattle.table.specs.declared.Damaged.{Damaged}
 use mathlib.Core.Path.{◌≡◌, refl, ap, sym, ◌∙◌}
 use mathlib.Core.Bool.{Bool, true, false, not}
 use mathlib.Core.List.{List}
-use Prim.Native.Nat.{ℕ, ◌≤◌, ◌<◌}
-use lib.Dec.{ltb}
+use Prim.Native.Nat.{ℕ, ◌≤◌}
 use lib.ListN.{length}
-use borrow.Author.Tests.{le-leb, lt-leb}
 use Rattle.config.specs.declared.PendingFlowsConfig.{PendingFlowsConfig}
 use Rattle.config.specs.Limits.{header_words}
 use Rattle.table_watch.specs.declared.Sought.{Sought}
@@ -52,22 +50,7 @@ module _ (w b : List ℕ) (sought : Sought) {x : Result LabelSeen Damaged} (test
   pub header_seen : {s : LabelSeen} → x ≡ Ok s → header_words ≤ length w
   header_seen e = header_within w (length b) (seen_legal e)
 
--- the test of `would_accept`, by the limits and the unexpired bodies
-module _ (l : PendingFlowsConfig) (len live : ℕ) where
-  pub over_entry_size : l.max_entry_size_bytes < len → false ≡ accepts_with l len live
-  unfolding accepts_with
-  over_entry_size h = rw (lt-leb len l.max_entry_size_bytes h)
-
-  module _ (fits-entry : len ≤ l.max_entry_size_bytes) where
-    pub over_total : l.max_total_bytes < len → false ≡ accepts_with l len live
-    unfolding accepts_with
-    over_total h = rw (le-leb len l.max_entry_size_bytes fits-entry, lt-leb len l.max_total_bytes h)
-
-    pub by_room : len ≤ l.max_total_bytes → ltb live l.max_entries_per_template ≡ accepts_with l len live
-    unfolding accepts_with
-    by_room h = rw (le-leb len l.max_entry_size_bytes fits-entry, le-leb len l.max_total_bytes h)
-
--- Both answers of `would_accept` on a well-formed cache, by what was seen of the id's bodies: x is the table that was
+-- What `would_accept` answers on a well-formed cache, by what was seen of the id's bodies: x is the table that was
 -- tested, and l the limits that were read.
 module _ (w b : List ℕ) (id len clock : ℕ) {x : Result LabelSeen Damaged} {s : LabelSeen} {l : PendingFlowsConfig} {v : Bool}
     (tested : x ≡ examined w (length b) (Sought.Live id clock)) (seen : x ≡ Ok s)
@@ -86,14 +69,8 @@ module _ (w b : List ℕ) (id len clock : ℕ) {x : Result LabelSeen Damaged} {s
       ∙ live_bodies_lem b (limits_of w).ttl clock (label_or_none (label_of id (table_of w).held)) (table_of w).entries
       ∙ rw (found_bodies b id (table_of w).entries (table_of w).held unused)
 
-  told : says v ≡ asked (λ c. says (would_accept id len clock c)) (view (areas_of w b))
+  pub told : says v ≡ asked (λ c. says (would_accept id len clock c)) (view (areas_of w b))
   unfolding accepts_with would_accept
   told =
       ap says (is ∙ rw (limits, live_right))
       ∙ answered (λ c. says (would_accept id len clock c)) w b refl ok
-
-  pub told_yes : v ≡ true → says true ≡ asked (λ c. says (would_accept id len clock c)) (view (areas_of w b))
-  told_yes h = ap says (sym h) ∙ told
-
-  pub told_no : v ≡ false → says false ≡ asked (λ c. says (would_accept id len clock c)) (view (areas_of w b))
-  told_no h = ap says (sym h) ∙ told

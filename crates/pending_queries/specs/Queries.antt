@@ -1,15 +1,13 @@
 -- What the queries promise.
-use Rattle.std.specs.Prelude.{◌≡◌, Bool, true, false, ◌&&◌, ℕ, leb, ltb}
+use Rattle.std.specs.Prelude.{Result, Ok, Err}
+use Rattle.table.specs.declared.Damaged.{Damaged}
+use Rattle.std.specs.Prelude.{◌≡◌, Bool, ◌&&◌, ℕ, leb, ltb}
 use Rattle.std.proofs.Math.Option.{Option}
 use Rattle.config.specs.declared.PendingFlowsConfig.{PendingFlowsConfig}
 use Rattle.cache_model.specs.Cache.{Cache, Figures, Answer, number, says, tells}
 use Rattle.cache_model.specs.Reply.{called}
 use Rattle.pending_flows.specs.View.{Areas, view}
-use Rattle.pending_queries.specs.declared.AcceptAnswer.{AcceptAnswer}
-use Rattle.pending_queries.specs.declared.AcceptAnswer.TheVariants as Accept
 use Rattle.pending_queries.specs.declared.CacheFigures.{CacheFigures}
-use Rattle.pending_queries.specs.declared.FiguresAnswer.{FiguresAnswer}
-use Rattle.pending_queries.specs.declared.FiguresAnswer.TheVariants as Figured
 
 -- a question asked of areas: 28 where they hold no well-formed cache
 abbrev pub asked : (Cache → Answer) → Option Cache → Answer
@@ -21,10 +19,9 @@ pub record Asks (question : Cache → Answer) (a : Areas) (r : Answer) (a' : Are
   pub unchanged : a' ≡ a
 
 -- document 01's answer of each case of `would_accept`
-abbrev pub accept_answer : AcceptAnswer → Answer
-accept_answer Accept.Yes = says true
-accept_answer Accept.No = says false
-accept_answer Accept.Damaged = number 28
+abbrev pub accept_answer : Result Bool Damaged → Answer
+accept_answer (Ok accepts) = says accepts
+accept_answer (Err damaged) = number 28
 
 -- what is asked of the limits and of an id's unexpired bodies, counted
 unfoldable pub accepts_with : PendingFlowsConfig → ℕ → ℕ → Bool
@@ -43,6 +40,6 @@ figures_record f = record {
 }
 
 -- document 01's answer of each case of `take_figures`
-abbrev pub figures_answer : FiguresAnswer → Answer
-figures_answer (Figured.At f) = tells (figures_record f)
-figures_answer Figured.Damaged = number 28
+abbrev pub figures_answer : Result CacheFigures Damaged → Answer
+figures_answer (Ok f) = tells (figures_record f)
+figures_answer (Err damaged) = number 28

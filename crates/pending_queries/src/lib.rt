@@ -11,33 +11,27 @@ ghost use Rattle.pending_queries.specs.Queries.{Asks, accepts_with, accept_answe
 
 use config::PendingFlowsConfig;
 use pending_flows::handed_count;
-use table::{CACHED, DROPPED, ENTRY_COUNT, HELD_COUNT, TOTAL, limits_at};
+use table::{CACHED, DROPPED, Damaged, ENTRY_COUNT, HELD_COUNT, TOTAL, limits_at};
 use table_watch::Sought;
 
-// What `would_accept` answers.
-#[derive(Clone, Copy)]
-pub enum AcceptAnswer {
-    Yes,
-    No,
-    // number 28
-    Damaged,
-}
-
 // Whether a body of this length is within the limits, and the id's unexpired bodies are fewer than the cap.
+#[tactic(auto, unfolding(crate::specs::Queries::accepts_with))]
 fn accepts(limits: PendingFlowsConfig, len: usize, live: usize) -> bool
     ensures { result ≡ accepts_with limits len live }
 {
-    if limits.max_entry_size_bytes < len {
-        return false;
-    }
-    if limits.max_total_bytes < len {
-        return false;
-    }
-    live < limits.max_entries_per_template
+    len <= limits.max_entry_size_bytes
+        && len <= limits.max_total_bytes
+        && live < limits.max_entries_per_template
 }
 
 // Whether an offer would be accepted: yes binds an offer of this id and length at this clock reading, no does not.
-pub fn would_accept(words: &[u64], bytes: &[u8], id: u16, len: usize, clock: u64) -> AcceptAnswer
+pub fn would_accept(
+    words: &[u64],
+    bytes: &[u8],
+    id: u16,
+    len: usize,
+    clock: u64,
+) -> Result<bool, Damaged>
     ensures { Asks (λ c. says (would_accept id len clock c)) (areas_of words.now bytes.now)
         (accept_answer result) (areas_of words.now bytes.now) }
 {
@@ -45,17 +39,12 @@ pub fn would_accept(words: &[u64], bytes: &[u8], id: u16, len: usize, clock: u64
         id: id as u64,
         clock,
     };
-    let Ok(seen) = table_check::examine(words, bytes.len(), live) else {
-        return AcceptAnswer::Damaged;
-    };
-    if accepts(limits_at(words), len, seen.live) {
-        return AcceptAnswer::Yes;
-    }
-    AcceptAnswer::No
+    let seen = table_check::examine(words, bytes.len(), live)?;
+    Ok(accepts(limits_at(words), len, seen.live))
 }
 
 // The figures of a cache.
-#[derive(Clone, Copy)]
+#[derive(Clone, Copy, Debug, PartialEq, Eq)]
 pub struct CacheFigures {
     pub templates: u64,
     pub bodies: u64,
@@ -64,14 +53,6 @@ pub struct CacheFigures {
     pub dropped: u64,
     // bodies handed out that may still be put back
     pub handed: u64,
-}
-
-// What the figures' call answers.
-#[derive(Clone, Copy)]
-pub enum FiguresAnswer {
-    At(CacheFigures),
-    // number 28
-    Damaged,
 }
 
 // The figures of a well-formed cache.
@@ -92,12 +73,12 @@ fn figures_of(words: &[u64], bytes: &[u8]) -> CacheFigures
 }
 
 // Templates and bodies held, the byte total, both counters, and the bodies handed out.
-pub fn take_figures(words: &[u64], bytes: &[u8]) -> FiguresAnswer
+pub fn take_figures(words: &[u64], bytes: &[u8]) -> Result<CacheFigures, Damaged>
     ensures { Asks (λ c. tells (figures c)) (areas_of words.now bytes.now)
         (figures_answer result) (areas_of words.now bytes.now) }
 {
-    if table_check::well_formed(words, bytes.len()) {
-        return FiguresAnswer::At(figures_of(words, bytes));
+    if !table_check::well_formed(words, bytes.len()) {
+        return Err(Damaged);
     }
-    FiguresAnswer::Damaged
+    Ok(figures_of(words, bytes))
 }
