@@ -4,7 +4,7 @@ use Rattle.table.specs.declared.Damaged.{Damaged}
 use mathlib.Core.Path.{◌≡◌, refl, ap, sym, ◌∙◌}
 use mathlib.Core.Bool.{Bool, true, false, ◌&&◌, cond}
 use mathlib.Core.List.{List, [], ◌∷◌}
-use mathlib.Core.Option.{Option, none, some}
+use mathlib.Core.Option.{Option as Maybe, none, some}
 use Prim.Native.Nat.{ℕ, zero, suc, ◌+◌, ◌-◌, ◌≤◌, ◌<◌}
 use native.Mathlib.Omega.{arith}
 use lib.Dec.{eqb, ltb}
@@ -32,8 +32,6 @@ use Rattle.cache_model.specs.Queries.{no_body, handed_out, read_handed_out, plac
 use Rattle.pending_handed_out.specs.declared.BodyPlace.{BodyPlace}
 use Rattle.pending_handed_out.specs.declared.PlaceRefusal.{PlaceRefusal}
 use Rattle.pending_handed_out.specs.declared.PlaceRefusal.TheVariants as Refusal
-use Rattle.pending_handed_out.specs.declared.PlaceAnswer.{PlaceAnswer}
-use Rattle.pending_handed_out.specs.declared.PlaceAnswer.TheVariants as Place
 use Rattle.pending_flows.specs.View.{Areas, body_at, bodies_at, chance_at, cache_of, areas_of, view}
 use Rattle.pending_queries.specs.Queries.{asked}
 use Rattle.pending_handed_out.specs.HandedOut.{shown, place_number, place_answer, PlacesHandedOut}
@@ -161,7 +159,7 @@ module _ (w b : List ℕ) (k : ℕ) {x : Result LabelSeen Damaged} {s : LabelSee
       some_is h = cc
 
   pub not_handed_out : r ≡ None →
-      PlacesHandedOut (areas_of w b) k (Place.Refused Refusal.NotHandedOut) (areas_of w b)
+      PlacesHandedOut (areas_of w b) k (Err Refusal.NotHandedOut) (areas_of w b)
   unfolding place_handed_out
   not_handed_out h = record {
     answer = rw (le-ltb k (length (cache_of (table_of w) b).chance.bodies) (found.absent h)) at said;
@@ -171,14 +169,14 @@ module _ (w b : List ℕ) (k : ℕ) {x : Result LabelSeen Damaged} {s : LabelSee
     unchanged = refl;
   }
     where
-      other : {A : Type 0} (p : BodyPlace) → (Place.Refused Refusal.NotHandedOut) ≡ Place.At p → A
+      other : {A : Type 0} (p : BodyPlace) → (Err Refusal.NotHandedOut) ≡ Ok p → A
       other p g = let z : ◌≡◌ {A = ℕ} 0 1 = cc in absurd (omega arith)
 
   abbrev place_of : Entry → BodyPlace
   place_of e = record { place = e.place; len = e.len }
 
   pub handed_out_at : (e : Entry) → r ≡ Some e →
-      PlacesHandedOut (areas_of w b) k (Place.At (place_of e)) (areas_of w b)
+      PlacesHandedOut (areas_of w b) k (Ok (place_of e)) (areas_of w b)
   unfolding place_handed_out
   handed_out_at e h = record {
     answer =
@@ -201,7 +199,7 @@ module _ (w b : List ℕ) (k : ℕ) {x : Result LabelSeen Damaged} {s : LabelSee
           ∙ ap length (found.holds e h)
 
 pub place_damaged : (w b : List ℕ) (k : ℕ) {x : Result LabelSeen Damaged} → x ≡ examined w (length b) (Sought.HandedOut k) →
-    x ≡ Err (record {}) → PlacesHandedOut (areas_of w b) k (Place.Refused Refusal.Damaged) (areas_of w b)
+    x ≡ Err (record {}) → PlacesHandedOut (areas_of w b) k (Err Refusal.Damaged) (areas_of w b)
 place_damaged w b k tested e = record {
   answer = seen_damaged w b (Sought.HandedOut k) tested (place_handed_out k) e;
   within = λ p g. other p g;
@@ -210,7 +208,7 @@ place_damaged w b k tested e = record {
   unchanged = refl;
 }
   where
-    other : {A : Type 0} (p : BodyPlace) → (Place.Refused Refusal.Damaged) ≡ Place.At p → A
+    other : {A : Type 0} (p : BodyPlace) → (Err Refusal.Damaged) ≡ Ok p → A
     other p g = let z : ◌≡◌ {A = ℕ} 0 1 = cc in absurd (omega arith)
 
 pub reads_handed_out : {a : Areas} {k : ℕ} {bs : List ℕ} → bs ≡ shown (asked (read_handed_out k) (view a)) →
@@ -218,8 +216,8 @@ pub reads_handed_out : {a : Areas} {k : ℕ} {bs : List ℕ} → bs ≡ shown (a
 reads_handed_out e = record { part = e; unchanged = refl }
 
 -- What is shown, by the answer of the call beside it.
-module _ (w b : List ℕ) (k : ℕ) (r : PlaceAnswer) (places : PlacesHandedOut (areas_of w b) k r (areas_of w b)) where
-  pub shown_none : (n : PlaceRefusal) → r ≡ Place.Refused n →
+module _ (w b : List ℕ) (k : ℕ) (r : Result BodyPlace PlaceRefusal) (places : PlacesHandedOut (areas_of w b) k r (areas_of w b)) where
+  pub shown_none : (n : PlaceRefusal) → r ≡ Err n →
       [] ≡ shown (asked (read_handed_out k) (view (areas_of w b)))
   unfolding place_handed_out read_handed_out
   shown_none n h = by_view (view (areas_of w b)) (ap place_answer (sym h) ∙ places.answer)
@@ -230,12 +228,12 @@ module _ (w b : List ℕ) (k : ℕ) (r : PlaceAnswer) (places : PlacesHandedOut 
       by_count c true e = let z : ◌≡◌ {A = ℕ} 0 1 = cc in absurd (omega arith)
       by_count c false e = refl
 
-      by_view : (v : Option Cache) → number (place_number n) ≡ asked (place_handed_out k) v →
+      by_view : (v : Maybe Cache) → number (place_number n) ≡ asked (place_handed_out k) v →
           [] ≡ shown (asked (read_handed_out k) v)
       by_view none e = refl
       by_view (some c) e = by_count c (ltb k (length c.chance.bodies)) e
 
-  pub shown_part : (p : BodyPlace) → r ≡ Place.At p →
+  pub shown_part : (p : BodyPlace) → r ≡ Ok p →
       take p.len (drop p.place b) ≡ shown (asked (read_handed_out k) (view (areas_of w b)))
   unfolding place_handed_out read_handed_out
   shown_part p h =
@@ -248,12 +246,12 @@ module _ (w b : List ℕ) (k : ℕ) (r : PlaceAnswer) (places : PlacesHandedOut 
       by_count c true e g = g
       by_count c false e g = let z : ◌≡◌ {A = ℕ} 0 1 = cc in absurd (omega arith)
 
-      by_view : (v : Option Cache) → spans p.len ≡ asked (place_handed_out k) v →
+      by_view : (v : Maybe Cache) → spans p.len ≡ asked (place_handed_out k) v →
           ((c : Cache) → v ≡ some c → take p.len (drop p.place b) ≡ (handed_out k c).bytes) →
           take p.len (drop p.place b) ≡ shown (asked (read_handed_out k) v)
       by_view none e g = let z : ◌≡◌ {A = ℕ} 0 1 = cc in absurd (omega arith)
       by_view (some c) e g = by_count c (ltb k (length c.chance.bodies)) e (g c refl)
 
   -- the part is within the bytes
-  pub part_within : (p : BodyPlace) → r ≡ Place.At p → p.place + p.len ≤ length b
+  pub part_within : (p : BodyPlace) → r ≡ Ok p → p.place + p.len ≤ length b
   part_within p h = places.inside p h

@@ -1,4 +1,5 @@
 -- What the queries on handed-out bodies promise.
+use Rattle.std.specs.Prelude.{Result, Ok, Err}
 use Rattle.std.specs.Prelude.{◌≡◌, List, [], ℕ, ◌+◌, ◌≤◌, length, take, drop}
 use Rattle.std.proofs.Math.Option.{some}
 use Rattle.table.specs.Layout.{limits_of}
@@ -7,8 +8,6 @@ use Rattle.cache_model.specs.Queries.{place_handed_out, read_handed_out, handed_
 use Rattle.pending_handed_out.specs.declared.BodyPlace.{BodyPlace}
 use Rattle.pending_handed_out.specs.declared.PlaceRefusal.{PlaceRefusal}
 use Rattle.pending_handed_out.specs.declared.PlaceRefusal.TheVariants as Refusal
-use Rattle.pending_handed_out.specs.declared.PlaceAnswer.{PlaceAnswer}
-use Rattle.pending_handed_out.specs.declared.PlaceAnswer.TheVariants as Place
 use Rattle.pending_flows.specs.View.{Areas, view}
 use Rattle.pending_queries.specs.Queries.{asked}
 
@@ -28,16 +27,16 @@ place_number Refusal.NotHandedOut = 27
 place_number Refusal.Damaged = 28
 
 -- document 01's answer of each case: the place is free
-abbrev pub place_answer : PlaceAnswer → Answer
-place_answer (Place.At p) = spans p.len
-place_answer (Place.Refused n) = number (place_number n)
+abbrev pub place_answer : Result BodyPlace PlaceRefusal → Answer
+place_answer (Ok p) = spans p.len
+place_answer (Err n) = number (place_number n)
 
 -- A handed-out body's place is free, but it lies within the configured bytes, and there the byte area holds the body.
-pub record PlacesHandedOut (a : Areas) (k : ℕ) (r : PlaceAnswer) (a' : Areas) : Type 0 where
+pub record PlacesHandedOut (a : Areas) (k : ℕ) (r : Result BodyPlace PlaceRefusal) (a' : Areas) : Type 0 where
   pub answer : place_answer r ≡ asked (place_handed_out k) (view a)
-  pub within : (p : BodyPlace) → r ≡ Place.At p → p.place + p.len ≤ (limits_of a.words).max_total_bytes
-  pub inside : (p : BodyPlace) → r ≡ Place.At p → p.place + p.len ≤ length a.bytes
-  pub holds : (p : BodyPlace) (c : Cache) → r ≡ Place.At p → view a ≡ some c →
+  pub within : (p : BodyPlace) → r ≡ Ok p → p.place + p.len ≤ (limits_of a.words).max_total_bytes
+  pub inside : (p : BodyPlace) → r ≡ Ok p → p.place + p.len ≤ length a.bytes
+  pub holds : (p : BodyPlace) (c : Cache) → r ≡ Ok p → view a ≡ some c →
       take p.len (drop p.place a.bytes) ≡ (handed_out k c).bytes
   pub unchanged : a' ≡ a
 

@@ -1,48 +1,58 @@
 // Handed-out bodies of a pending flow cache that may still be put back, by their number from 0 (pending_flows.rs).
 #![tactic(auto)]
 
+ghost use Rattle.std.specs.Prelude.{◌≡◌};
 ghost use Rattle.pending_flows.specs.View.{areas_of};
-ghost use Rattle.pending_handed_out.specs.HandedOut.{PlacesHandedOut, ReadsHandedOut};
+ghost use Rattle.pending_handed_out.specs.HandedOut.{place_number, PlacesHandedOut, ReadsHandedOut};
+ghost use Rattle.pending_handed_out.specs.declared.PlaceRefusal.TheVariants as PlaceRefusal;
 
+use table::Damaged;
 use table_watch::Sought;
 
 // Where a body lies in the byte area.
-#[derive(Clone, Copy)]
+#[derive(Clone, Copy, Debug, PartialEq, Eq)]
 pub struct BodyPlace {
     pub place: usize,
     pub len: usize,
 }
 
 // Why there is no place.
-#[derive(Clone, Copy)]
+#[derive(Clone, Copy, Debug, PartialEq, Eq)]
 pub enum PlaceRefusal {
-    // number 27
     NotHandedOut,
-    // number 28
     Damaged,
 }
 
-// What the call for a handed-out body's place answers.
-#[derive(Clone, Copy)]
-pub enum PlaceAnswer {
-    At(BodyPlace),
-    Refused(PlaceRefusal),
+impl From<Damaged> for PlaceRefusal {
+    ghost from_gives = { λ _ refusal. refusal ≡ PlaceRefusal.Damaged };
+
+    fn from(_damaged: Damaged) -> PlaceRefusal {
+        PlaceRefusal::Damaged
+    }
+}
+
+// Document 01's number of a refusal.
+impl From<PlaceRefusal> for u32 {
+    ghost from_gives = { λ refusal number. number ≡ place_number refusal };
+
+    fn from(refusal: PlaceRefusal) -> u32 {
+        match refusal {
+            PlaceRefusal::NotHandedOut => 27,
+            PlaceRefusal::Damaged => 28,
+        }
+    }
 }
 
 // The place and length of handed-out body k.
-pub fn place_handed_out(words: &[u64], bytes: &[u8], k: usize) -> PlaceAnswer
+pub fn place_handed_out(words: &[u64], bytes: &[u8], k: usize) -> Result<BodyPlace, PlaceRefusal>
     ensures { PlacesHandedOut (areas_of words.now bytes.now) k result
         (areas_of words.now bytes.now) }
 {
-    let Ok(seen) = table_check::examine(words, bytes.len(), Sought::HandedOut(k))
-    else {
-        return PlaceAnswer::Refused(PlaceRefusal::Damaged);
+    let seen = table_check::examine(words, bytes.len(), Sought::HandedOut(k))?;
+    let Some(entry) = seen.found else {
+        return Err(PlaceRefusal::NotHandedOut);
     };
-    let found = seen.found;
-    let Some(entry) = found else {
-        return PlaceAnswer::Refused(PlaceRefusal::NotHandedOut);
-    };
-    PlaceAnswer::At(BodyPlace {
+    Ok(BodyPlace {
         place: entry.place as usize,
         len: entry.len as usize,
     })
@@ -53,7 +63,7 @@ pub fn read_handed_out<'a>(words: &[u64], bytes: &'a [u8], k: usize) -> &'a [u8]
     ensures { ReadsHandedOut (areas_of words.now bytes.now) k result.now
         (areas_of words.now bytes.now) }
 {
-    let PlaceAnswer::At(body) = place_handed_out(words, bytes, k) else {
+    let Ok(body) = place_handed_out(words, bytes, k) else {
         return &bytes[0..0];
     };
     let place = body.place;

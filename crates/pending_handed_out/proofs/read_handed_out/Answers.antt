@@ -12,19 +12,19 @@ pub overflow_add-end : goal.overflow_add-end
 overflow_add-end c = omega (
   arith,
   part_within _ _ _ _ c.place_handed_out.ensures _
-      c.in-At.is,
+      c.in-Ok.is,
 )
 
 pub slice_bounds-result-end-2 : goal.slice_bounds-result-end-2
 slice_bounds-result-end-2 c = omega (
   arith,
   part_within _ _ _ _
-      c.place_handed_out.ensures _ c.in-At.is,
+      c.place_handed_out.ensures _ c.in-Ok.is,
 )
 
 pub returns : goal.returns
-returns c = let b = c.in-At.body in
+returns c = let b = c.in-Ok.body in
     let z : b.place + b.len - b.place ≡ b.len = omega arith in
     reads_handed_out
     (rw z (shown_part _ _ _ _ c.place_handed_out.ensures _
-    c.in-At.is))
+    c.in-Ok.is))
