@@ -1,4 +1,5 @@
 -- Areas before and after clearing. Assumes nothing.
+use Rattle.std.proofs.Common.{Ok, Err}
 use mathlib.Core.Path.{◌≡◌, refl, ◌∙◌}
 use mathlib.Core.Bool.{Bool, true, false}
 use mathlib.Core.List.{List}
@@ -20,7 +21,6 @@ use Rattle.cache_model.specs.Calls.{cleared}
 use Rattle.pending_flows.specs.View.{areas_of, cache_of, view}
 use Rattle.pending_flows.specs.declared.header.HeaderFigures.{HeaderFigures}
 use Rattle.pending_flows.specs.Header.{figures_at, header_of}
-use Rattle.pending_calls.specs.declared.clearing.ClearAnswer.TheVariants as Clear
 use Rattle.pending_calls.specs.Promises.{Does, Clears}
 use Rattle.pending_calls.proofs.Performed.{damaged_performs, performed, untouched_all}
 use Rattle.pending_calls.proofs.Headers.{headed, headed_flag, headed_limits, headed_length, headed_behind}
@@ -82,10 +82,10 @@ module _ (w b : List ℕ) (ok : well_formed w (length b) ≡ true) where
 
 -- the call, behind the test of 28
 module _ (w b : List ℕ) {v : Bool} (tested : v ≡ well_formed w (length b)) where
-  pub clear_damaged : v ≡ false → Clears (areas_of w b) Clear.Damaged (areas_of w b)
+  pub clear_damaged : v ≡ false → Clears (areas_of w b) (Err (record {})) (areas_of w b)
   clear_damaged h = record { performs = damaged_performs w b tested cleared h; frame = untouched_all _ _ _ }
 
   pub clear_done : {w' b' : List ℕ} → v ≡ true → Does cleared (cache_of (table_of w) b) (areas_of w b) done
       (areas_of w' b')
-      → Clears (areas_of w b) Clear.Done (areas_of w' b')
+      → Clears (areas_of w b) (Ok tt) (areas_of w' b')
   clear_done h d = record { performs = performed w b tested cleared h d; frame = d.frame }

@@ -1,4 +1,6 @@
 -- What the calls that change a cache promise.
+use Rattle.std.specs.Prelude.{Result, Ok, Err, ⊤}
+use Rattle.table.specs.declared.Damaged.{Damaged}
 use Rattle.std.specs.Prelude.{◌≡◌, ℕ, length, drop}
 use Rattle.std.proofs.Math.Option.{none, some}
 use Rattle.config.specs.declared.PendingFlowsConfig.{PendingFlowsConfig}
@@ -8,8 +10,6 @@ use Rattle.cache_model.specs.Cache.{Cache, Answer, done, number, Outcome}
 use Rattle.cache_model.specs.Calls.{cleared}
 use Rattle.cache_model.specs.Reply.{called}
 use Rattle.pending_flows.specs.View.{Areas, view}
-use Rattle.pending_calls.specs.declared.clearing.ClearAnswer.{ClearAnswer}
-use Rattle.pending_calls.specs.declared.clearing.ClearAnswer.TheVariants as Clear
 
 -- Words and bytes from these on are not touched, and the areas keep their lengths.
 pub record Untouched (words bytes : ℕ) (a a' : Areas) : Type 0 where
@@ -37,10 +37,10 @@ pub record Does (f : Cache → Outcome) (c : Cache) (a : Areas) (r : Answer) (a'
   pub frame : UntouchedPast (limits_of a.words) a a'
 
 -- document 01's answer of each case
-abbrev pub clear_answer : ClearAnswer → Answer
-clear_answer Clear.Done = done
-clear_answer Clear.Damaged = number 28
+abbrev pub clear_answer : Result ⊤ Damaged → Answer
+clear_answer (Ok tt) = done
+clear_answer (Err damaged) = number 28
 
-pub record Clears (a : Areas) (r : ClearAnswer) (a' : Areas) : Type 0 where
+pub record Clears (a : Areas) (r : Result ⊤ Damaged) (a' : Areas) : Type 0 where
   pub performs : Performs cleared a (clear_answer r) a'
   pub frame : UntouchedPast (limits_of a.words) a a'

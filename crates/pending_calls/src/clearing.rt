@@ -8,15 +8,7 @@ ghost use Rattle.pending_flows.specs.View.{areas_of, cache_of};
 ghost use Rattle.pending_calls.specs.Promises.{Does, Clears};
 
 use pending_flows::{HeaderFigures, figures_at, write_header};
-use table::limits_at;
-
-// What clearing answers.
-#[derive(Clone, Copy)]
-pub enum ClearAnswer {
-    Done,
-    // number 28
-    Damaged,
-}
+use table::{Damaged, limits_at};
 
 // Empties a well-formed cache.
 fn clear_cache(words: &mut [u64], bytes: &[u8])
@@ -38,13 +30,13 @@ fn clear_cache(words: &mut [u64], bytes: &[u8])
 }
 
 // Empties the cache and leaves the counters; handed-out bodies stay handed out.
-pub fn clear(words: &mut [u64], bytes: &[u8]) -> ClearAnswer
+pub fn clear(words: &mut [u64], bytes: &[u8]) -> Result<(), Damaged>
     ensures { Clears (areas_of words.old bytes.now) result
         (areas_of words.new bytes.now) }
 {
-    if table_check::well_formed(words, bytes.len()) {
-        clear_cache(words, bytes);
-        return ClearAnswer::Done;
+    if !table_check::well_formed(words, bytes.len()) {
+        return Err(Damaged);
     }
-    ClearAnswer::Damaged
+    clear_cache(words, bytes);
+    Ok(())
 }

@@ -6,8 +6,5 @@ ghost use Rattle.cache_model.specs.Cache.{raised};
 pub fn raised(counter: u64, n: u64) -> u64
     ensures { result ≡ raised counter n }
 {
-    if 18446744073709551615 - counter < n {
-        return 18446744073709551615;
-    }
-    counter + n
+    counter.saturating_add(n)
 }

@@ -5,7 +5,7 @@ mod clearing;
 mod counters;
 mod removal;
 
-pub use clearing::{ClearAnswer, clear};
+pub use clearing::clear;
 pub use counters::raised;
 pub use removal::{
     Removed, label_test, remove, remove_expired, remove_none, remove_whole, stay_all,

@@ -9,7 +9,7 @@ ghost use Rattle.pending_flows.specs.Header.{figures_at};
 ghost use Rattle.pending_calls.specs.Removal.{everything, unexpired, ClosesApart, SkipsWhole, Removes};
 ghost use Rattle.pending_calls.specs.Removal.{RemovesFrom};
 
-use config::{PendingFlowsConfig};
+use config::PendingFlowsConfig;
 use pending_flows::HeaderFigures;
 use table::{LABELS, records_at};
 use table_closing::close;
@@ -35,7 +35,7 @@ pub fn label_test(ttl: Option<u64>, clock: u64, label: u64) -> StayTest
         clock,
         all: false,
         label,
-        max_size: 18446744073709551615,
+        max_size: u64::MAX,
     }
 }
 
