@@ -1,5 +1,6 @@
 -- The steps of a drain, with the limits, figures and label as they were read: what each step asks, and what all do.
 -- Assumes nothing.
+use Rattle.std.proofs.Common.{Ok, Err}
 use mathlib.Core.Path.{◌≡◌, ap}
 use mathlib.Core.Bool.{Bool, true, false}
 use mathlib.Core.List.{List}
@@ -26,7 +27,6 @@ use Rattle.pending_calls.specs.declared.removal.Removed.{Removed}
 use Rattle.pending_calls.specs.Promises.{Does}
 use Rattle.pending_calls.proofs.Performed.{damaged_performs, performed, untouched_all}
 use Rattle.pending_calls.proofs.RemovedLemmas.{records_within}
-use Rattle.pending_drain.specs.declared.draining.DrainAnswer.TheVariants as Drain
 use Rattle.pending_drain.specs.Handing.{TakesOut, HandsOut}
 use Rattle.pending_drain.specs.Promises.{Drains}
 use Rattle.pending_drain.proofs.AsRead.{as_labelled}
@@ -129,7 +129,7 @@ module _ (w b : List ℕ) (i now : ℕ) (ok : well_formed w (length b) ≡ true)
 
 -- the call, behind the test of 28
 module _ (w b : List ℕ) (i now : ℕ) {v : Bool} (tested : v ≡ well_formed w (length b)) where
-  pub drain_damaged : v ≡ false → Drains i now (areas_of w b) Drain.Damaged (areas_of w b)
+  pub drain_damaged : v ≡ false → Drains i now (areas_of w b) (Err (record {})) (areas_of w b)
   drain_damaged h = record {
     performs = damaged_performs w b tested (drained i now) h;
     frame = untouched_all _ _ _;
@@ -137,5 +137,5 @@ module _ (w b : List ℕ) (i now : ℕ) {v : Bool} (tested : v ≡ well_formed w
 
   pub drain_handed : {w' b' : List ℕ} {n : ℕ} → v ≡ true →
       Does (drained i now) (cache_of (table_of w) b) (areas_of w b) (count n) (areas_of w' b') →
-      Drains i now (areas_of w b) (Drain.HandedOut n) (areas_of w' b')
+      Drains i now (areas_of w b) (Ok n) (areas_of w' b')
   drain_handed h d = record { performs = performed w b tested (drained i now) h d; frame = d.frame }

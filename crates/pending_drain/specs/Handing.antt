@@ -1,6 +1,6 @@
 -- The steps of a drain on the table: what is taken out of the rows, and the record of what is
--- handed out. They stand here because Rattle.std.specs.Prelude.{Option}
-use the contracts of the steps cite them.
+-- handed out. They stand here because the contracts of the steps cite them.
+use Rattle.std.specs.Prelude.{Option}
 use Rattle.std.specs.Prelude.{◌≡◌, List, ℕ, ◌+◌, ◌*◌, ◌<◌, replicate}
 use Rattle.config.specs.Limits.{record_words}
 use Rattle.table.specs.declared.TemplateRecord.{TemplateRecord}

@@ -16,19 +16,10 @@ ghost use Rattle.pending_drain.specs.Promises.{Drains};
 use config::{PendingFlowsConfig, RECORD_WORDS};
 use pending_calls::{Removed, raised, remove_expired, remove_none};
 use pending_flows::{HeaderFigures, figures_at, handed_count, write_header};
-use table::{LABELS, TemplateRecord, count_of, label_for, limits_at, live_figures, records_at};
+use table::{Damaged, LABELS, TemplateRecord, count_of, label_for, limits_at, live_figures, records_at};
 use table_promotion::add_record;
 use table_records::skip_records;
 use template_removal::remove_expired_of;
-
-// What a drain answers.
-#[derive(Clone, Copy)]
-pub enum DrainAnswer {
-    // so many bodies are handed out
-    HandedOut(usize),
-    // number 28
-    Damaged,
-}
 
 // The drops counted after a drain: the bodies that were held and are not left.
 fn dropped_after(figures: HeaderFigures, handed: u64, left: u64) -> u64
@@ -149,13 +140,13 @@ fn drain_cache(words: &mut [u64], bytes: &[u8], id: u64, clock: u64) -> usize
     removed.apart as usize
 }
 
-// Removes an id, drops its expired bodies and hands out the rest, oldest first.
-pub fn drain(words: &mut [u64], bytes: &[u8], id: u16, clock: u64) -> DrainAnswer
+// Removes an id, drops its expired bodies and hands out the rest, oldest first; answers how many those are.
+pub fn drain(words: &mut [u64], bytes: &[u8], id: u16, clock: u64) -> Result<usize, Damaged>
     ensures { Drains id clock (areas_of words.old bytes.now) result
         (areas_of words.new bytes.now) }
 {
-    if table_check::well_formed(words, bytes.len()) {
-        return DrainAnswer::HandedOut(drain_cache(words, bytes, id as u64, clock));
+    if !table_check::well_formed(words, bytes.len()) {
+        return Err(Damaged);
     }
-    DrainAnswer::Damaged
+    Ok(drain_cache(words, bytes, id as u64, clock))
 }

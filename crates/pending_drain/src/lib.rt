@@ -3,4 +3,4 @@
 
 mod draining;
 
-pub use draining::{DrainAnswer, drain};
+pub use draining::drain;
