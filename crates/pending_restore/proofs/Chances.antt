@@ -1,4 +1,6 @@
 -- Whether there is the chance of a put-back, read off the record behind the held ones. Assumes nothing.
+use Rattle.std.proofs.Common.{Some, None}
+use mathlib.Core.Logic.{◌⊎◌, inl, inr}
 use mathlib.Core.Path.{◌≡◌, sym, ap, subst, ◌∙◌}
 use mathlib.Core.Bool.{true, false, and-false}
 use mathlib.Core.List.{List, [], ◌∷◌, ◌++◌}
@@ -21,18 +23,17 @@ use Rattle.cache_model.specs.Calls.{may_put_back}
 use Rattle.pending_flows.specs.View.{bodies_at, cache_of}
 use Rattle.pending_flows.proofs.Templates.{length_bodies}
 use Rattle.table_view.proofs.Tied.{words_tied}
-use Rattle.pending_restore.specs.declared.ChanceFound.TheVariants as Chance
 use Rattle.pending_restore.specs.Restoring.{HasChance, FindsChance}
 
 module _ (w b : List ℕ) (id n : ℕ) where
   -- nothing is found where there is no chance
-  nothing : may_put_back id n (cache_of (table_of w) b) ≡ false → FindsChance id n w b Chance.Nothing
+  nothing : may_put_back id n (cache_of (table_of w) b) ≡ false → FindsChance id n w b None
   nothing e = record {
     absent = λ _. e;
     found = λ t f. let z : ◌≡◌ {A = ℕ} 0 1 = cc in absurd (omega arith);
   }
 
-  pub none_handed : 0 < n → chance_count w ≡ 0 → FindsChance id n w b Chance.Nothing
+  pub none_handed : 0 < n → chance_count w ≡ 0 → FindsChance id n w b None
   unfolding records_from
   none_handed some none =
       let empty : (table_of w).handed ≡ [] =
@@ -59,16 +60,15 @@ module _ (w b : List ℕ) (id n : ℕ) where
         length_bodies b t.label es
         ∙ sym (all_back (λ r. r.count ≡ tally r.label es) (table_of w).held (t ∷ []) right).0
 
-    pub other_id : (id ≡ t.key → ⊥) → FindsChance id n w b Chance.Nothing
-    other_id d = nothing (rw (handed_is, ne_eqb id t.key d))
-
-    pub too_few : t.count < n → FindsChance id n w b Chance.Nothing
-    too_few h =
+    -- a body too few, or another id
+    pub not_found : (id ≡ t.key) × (t.count < n) ⊎ (id ≡ t.key → ⊥) → FindsChance id n w b None
+    not_found (inl few) =
         nothing
-        (rw (handed_is, lt-leb n (length (bodies_at b t.label (table_of w).entries)) (omega (arith, counted)))
+        (rw (handed_is, lt-leb n (length (bodies_at b t.label (table_of w).entries)) (omega (arith, few.1, counted)))
         (and-false (eqb id t.key)))
+    not_found (inr other) = nothing (rw (handed_is, ne_eqb id t.key other))
 
-    pub chance_found : id ≡ t.key → n ≤ t.count → FindsChance id n w b (Chance.At t)
+    pub chance_found : id ≡ t.key → n ≤ t.count → FindsChance id n w b (Some t)
     chance_found same enough = record {
       absent = λ e. let z : ◌≡◌ {A = ℕ} 0 1 = cc in absurd (omega arith);
       found = λ u e. let is : t ≡ u = cc in

@@ -1,5 +1,6 @@
 -- The steps of a put-back, with the limits and figures as they were read: what each step asks, and what all do.
 -- Assumes nothing.
+use Rattle.std.proofs.Common.{Option, Some, None, Ok, Err}
 use mathlib.Core.Path.{◌≡◌, refl, sym, ap, subst, ◌∙◌}
 use mathlib.Core.Bool.{Bool, true, false}
 use mathlib.Core.List.{List, [], ◌∷◌, ◌++◌}
@@ -26,10 +27,7 @@ use Rattle.pending_calls.specs.declared.removal.Removed.{Removed}
 use Rattle.pending_calls.specs.Removal.{everything, Removes}
 use Rattle.pending_calls.specs.Promises.{Does}
 use Rattle.pending_calls.proofs.Performed.{view_some, damaged_performs, performed, untouched_all}
-use Rattle.pending_restore.specs.declared.ChanceFound.{ChanceFound}
-use Rattle.pending_restore.specs.declared.ChanceFound.TheVariants as Chance
 use Rattle.pending_restore.specs.declared.PutBackRefusal.TheVariants as Refusal
-use Rattle.pending_restore.specs.declared.PutBackAnswer.TheVariants as PutBack
 use Rattle.pending_drain.specs.Handing.{zeros}
 use Rattle.pending_restore.specs.Restoring.{HasChance, FindsChance, TakesBack}
 use Rattle.pending_restore.specs.Promises.{PutsBack}
@@ -101,12 +99,12 @@ module _ (w b : List ℕ) (n : ℕ) (t : TemplateRecord) (ok : well_formed w (le
 -- ---- the call, behind the test of 28
 
 -- what was found
-pub has_chance : {id n : ℕ} {w b : List ℕ} {x : ChanceFound} {t : TemplateRecord} → FindsChance id n w b x →
-    x ≡ Chance.At t → HasChance n t w
+pub has_chance : {id n : ℕ} {w b : List ℕ} {x : Option TemplateRecord} {t : TemplateRecord} → FindsChance id n w b x →
+    x ≡ Some t → HasChance n t w
 has_chance {t = t} sought e = (sought.found t e).1
 
 module _ (w b : List ℕ) (id n : ℕ) {v : Bool} (tested : v ≡ well_formed w (length b)) where
-  pub put_back_damaged : v ≡ false → PutsBack id n (areas_of w b) (PutBack.Refused Refusal.Damaged) (areas_of w b)
+  pub put_back_damaged : v ≡ false → PutsBack id n (areas_of w b) (Err Refusal.Damaged) (areas_of w b)
   put_back_damaged h = record {
     performs = damaged_performs w b tested (put_back id n) h;
     refused = λ _. refl;
@@ -114,7 +112,7 @@ module _ (w b : List ℕ) (id n : ℕ) {v : Bool} (tested : v ≡ well_formed w 
     frame = untouched_all _ _ _;
   }
 
-  pub put_back_of_none : v ≡ true → n ≡ 0 → PutsBack id n (areas_of w b) PutBack.Done (areas_of w b)
+  pub put_back_of_none : v ≡ true → n ≡ 0 → PutsBack id n (areas_of w b) (Ok tt) (areas_of w b)
   unfolding put_back
   put_back_of_none h none = record {
     performs = performed w b tested (put_back id n) h (record {
@@ -127,9 +125,9 @@ module _ (w b : List ℕ) (id n : ℕ) {v : Bool} (tested : v ≡ well_formed w 
     frame = untouched_all _ _ _;
   }
 
-  module _ {x : ChanceFound} (h : v ≡ true) (some : n ≡ 0 → ⊥) (sought : FindsChance id n w b x) where
-    pub put_back_refused : x ≡ Chance.Nothing →
-        PutsBack id n (areas_of w b) (PutBack.Refused Refusal.NoChance) (areas_of w b)
+  module _ {x : Option TemplateRecord} (h : v ≡ true) (some : n ≡ 0 → ⊥) (sought : FindsChance id n w b x) where
+    pub put_back_refused : x ≡ None →
+        PutsBack id n (areas_of w b) (Err Refusal.NoChance) (areas_of w b)
     unfolding put_back
     put_back_refused e = record {
       performs = performed w b tested (put_back id n) h (record {
@@ -142,9 +140,9 @@ module _ (w b : List ℕ) (id n : ℕ) {v : Bool} (tested : v ≡ well_formed w 
       frame = untouched_all _ _ _;
     }
 
-    pub put_back_done : {t : TemplateRecord} {w' b' : List ℕ} → x ≡ Chance.At t →
+    pub put_back_done : {t : TemplateRecord} {w' b' : List ℕ} → x ≡ Some t →
         Does (put_back t.key n) (cache_of (table_of w) b) (areas_of w b) done (areas_of w' b') →
-        PutsBack id n (areas_of w b) PutBack.Done (areas_of w' b')
+        PutsBack id n (areas_of w b) (Ok tt) (areas_of w' b')
     put_back_done {t} {w'} {b'} e d =
         let same : t.key ≡ id = sym (sought.found t e).0 in
         let does : Does (put_back id n) (cache_of (table_of w) b) (areas_of w b) done (areas_of w' b') =

@@ -1,5 +1,6 @@
 -- The steps of a put-back on the table: whether there is the chance, and what is taken out of the rows. They stand here
 -- because the contracts of the steps cite them.
+use Rattle.std.specs.Prelude.{Option, Some, None}
 use Rattle.std.specs.Prelude.{◌≡◌, false, List, [], ◌∷◌, ℕ, ◌+◌, ◌≤◌, set}
 use Rattle.table.specs.declared.TemplateRecord.{TemplateRecord}
 use Rattle.table.specs.Table.{table_of}
@@ -8,8 +9,6 @@ use Rattle.pending_flows.specs.declared.header.HeaderFigures.{HeaderFigures}
 use Rattle.pending_flows.specs.View.{cache_of}
 use Rattle.pending_calls.specs.declared.removal.Removed.{Removed}
 use Rattle.pending_calls.specs.Removal.{everything, Removes}
-use Rattle.pending_restore.specs.declared.ChanceFound.{ChanceFound}
-use Rattle.pending_restore.specs.declared.ChanceFound.TheVariants as Chance
 use Rattle.pending_drain.specs.Handing.{zeros}
 
 -- the template is the one that is handed out, with at least n bodies
@@ -18,9 +17,9 @@ pub record HasChance (n : ℕ) (t : TemplateRecord) (w : List ℕ) : Type 0 wher
   pub enough : n ≤ t.count
 
 -- the template whose bodies may be put back, if any
-pub record FindsChance (id n : ℕ) (w b : List ℕ) (r : ChanceFound) : Type 0 where
-  pub absent : r ≡ Chance.Nothing → may_put_back id n (cache_of (table_of w) b) ≡ false
-  pub found : (t : TemplateRecord) → r ≡ Chance.At t → (id ≡ t.key) × HasChance n t w
+pub record FindsChance (id n : ℕ) (w b : List ℕ) (r : Option TemplateRecord) : Type 0 where
+  pub absent : r ≡ None → may_put_back id n (cache_of (table_of w) b) ≡ false
+  pub found : (t : TemplateRecord) → r ≡ Some t → (id ≡ t.key) × HasChance n t w
 
 -- the oldest bodies of a label go, so many of them, and no others; from word p on stand the records
 abbrev pub TakesBack : ℕ → ℕ → ℕ → HeaderFigures → List ℕ → List ℕ → Removed → Type 0

@@ -11,7 +11,7 @@ ghost use Rattle.cache_model.specs.Calls.{put_back};
 ghost use Rattle.pending_flows.specs.View.{areas_of, cache_of};
 ghost use Rattle.pending_calls.specs.Promises.{Does};
 ghost use Rattle.pending_restore.specs.Restoring.{HasChance, FindsChance, TakesBack};
-ghost use Rattle.pending_restore.specs.Promises.{PutsBack};
+ghost use Rattle.pending_restore.specs.Promises.{put_back_number, PutsBack};
 
 use config::RECORD_WORDS;
 use pending_calls::{Removed, remove, stay_all};
@@ -20,45 +20,39 @@ use table::{CHANCE_COUNT, HELD_COUNT, LABELS, TemplateRecord, limits_at, record_
 use table_records::set_sum;
 
 // Why nothing is put back.
-#[derive(Clone, Copy)]
+#[derive(Clone, Copy, Debug, PartialEq, Eq)]
 pub enum PutBackRefusal {
-    // number 25
     NoChance,
-    // number 28
     Damaged,
 }
 
-// What a put-back answers.
-#[derive(Clone, Copy)]
-pub enum PutBackAnswer {
-    Done,
-    Refused(PutBackRefusal),
-}
+// Document 01's number of a refusal.
+impl From<PutBackRefusal> for u32 {
+    ghost from_gives = { λ refusal number. number ≡ put_back_number refusal };
 
-// The handed-out template, where bodies of it may be put back.
-#[derive(Clone, Copy)]
-enum ChanceFound {
-    At(TemplateRecord),
-    Nothing,
+    fn from(refusal: PutBackRefusal) -> u32 {
+        match refusal {
+            PutBackRefusal::NoChance => 25,
+            PutBackRefusal::Damaged => 28,
+        }
+    }
 }
 
 // The handed-out template of a well-formed cache, if it has this id and at least n bodies; n is not 0.
-fn find_chance(words: &[u64], bytes: &[u8], id: u64, n: u64) -> ChanceFound
+fn find_chance(words: &[u64], bytes: &[u8], id: u64, n: u64) -> Option<TemplateRecord>
     requires { (well_formed words.now (length bytes.now) ≡ true) × (0 < n) }
     ensures { FindsChance id n words.now bytes.now result }
 {
     if words[CHANCE_COUNT] == 0 {
-        return ChanceFound::Nothing;
+        return None;
     }
     let held = words[HELD_COUNT] as usize;
     let template = record_at(words, records_at(limits_at(words)) + RECORD_WORDS * held);
-    if id != template.key {
-        return ChanceFound::Nothing;
+    if id == template.key && n <= template.count {
+        Some(template)
+    } else {
+        None
     }
-    if template.count < n {
-        return ChanceFound::Nothing;
-    }
-    ChanceFound::At(template)
 }
 
 // Removes so many of a label's bodies, the oldest, and no others.
@@ -113,19 +107,24 @@ fn put_back(words: &mut [u64], bytes: &[u8], template: TemplateRecord, n: u64)
 
 // Puts back the last n bodies of the last drain, if it drained this id, handed out as many, and neither an offer nor
 // another call has ended the chance; a put-back ends it.
-pub fn restore_replay_suffix(words: &mut [u64], bytes: &[u8], id: u16, n: usize) -> PutBackAnswer
+pub fn restore_replay_suffix(
+    words: &mut [u64],
+    bytes: &[u8],
+    id: u16,
+    n: usize,
+) -> Result<(), PutBackRefusal>
     ensures { PutsBack id n (areas_of words.old bytes.now) result
         (areas_of words.new bytes.now) }
 {
-    if table_check::well_formed(words, bytes.len()) {
-        if n == 0 {
-            return PutBackAnswer::Done;
-        }
-        let ChanceFound::At(template) = find_chance(words, bytes, id as u64, n as u64) else {
-            return PutBackAnswer::Refused(PutBackRefusal::NoChance);
-        };
-        put_back(words, bytes, template, n as u64);
-        return PutBackAnswer::Done;
+    if !table_check::well_formed(words, bytes.len()) {
+        return Err(PutBackRefusal::Damaged);
     }
-    PutBackAnswer::Refused(PutBackRefusal::Damaged)
+    if n == 0 {
+        return Ok(());
+    }
+    let Some(template) = find_chance(words, bytes, id as u64, n as u64) else {
+        return Err(PutBackRefusal::NoChance);
+    };
+    put_back(words, bytes, template, n as u64);
+    Ok(())
 }

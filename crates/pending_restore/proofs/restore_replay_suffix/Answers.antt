@@ -5,6 +5,9 @@ use Rattle.pending_restore.proofs.Restores.{has_chance, put_back_damaged, put_ba
 use Rattle.pending_restore.proofs.Restores.{put_back_done}
 use Rattle.pending_restore.proofs.restore_replay_suffix.Goals as goal
 
+pub returns-then-not-well_formed : goal.returns-then-not-well_formed
+returns-then-not-well_formed c = search (put_back_damaged, rules)
+
 pub returns-then-n-eq0 : goal.returns-then-n-eq0
 returns-then-n-eq0 c = search (put_back_of_none, rules)
 
@@ -17,11 +20,8 @@ returns-in_default c = search (put_back_refused, rules)
 pub put_back-requires : goal.put_back-requires
 put_back-requires c = record {
   bytes_value = search (well_formed_lem, rules);
-  n_nonzero = (search (pos_of_ne-zero, rules), has_chance c.find_chance.ensures c.in-At.is);
+  n_nonzero = (search (pos_of_ne-zero, rules), has_chance c.find_chance.ensures c.in-Some.is);
 }
 
-pub returns-then-well_formed : goal.returns-then-well_formed
-returns-then-well_formed c = search (put_back_done, rules)
-
 pub returns : goal.returns
-returns c = search (put_back_damaged, rules)
+returns c = search (put_back_done, rules)
