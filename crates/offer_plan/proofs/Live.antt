@@ -3,7 +3,7 @@ use Rattle.std.proofs.Common.{Option, Some, None}
 use mathlib.Core.Path.{◌≡◌, refl, sym, ap, ◌∙◌}
 use mathlib.Core.Bool.{Bool, true, false, ◌&&◌, cond}
 use mathlib.Core.List.{List, [], ◌∷◌}
-use Prim.Native.Nat.{ℕ, ◌≤◌, ◌<◌}
+use Prim.Native.Nat.{ℕ, ◌<◌}
 use native.Mathlib.Omega.{arith}
 use lib.Dec.{eqb, leb, ltb}
 use lib.ListN.{get_or}
@@ -17,7 +17,7 @@ use Rattle.table.specs.Reads.{record_of, label_in, count_in, label_of, label_or_
 use Rattle.table.proofs.Lookups.{label_told, no_label_told, count_told, no_count_told}
 use Rattle.table_view.proofs.AllStay.{none_expired}
 use Rattle.offer_plan.specs.Plan.{live_sums, FoundHas, live_found, LiveSeen, LiveRead, live_at}
-use Rattle.offer_plan.specs.Plan.{others_fill, NothingGoes, none_expires}
+use Rattle.offer_plan.specs.Plan.{others_fill}
 
 -- ---- by what was found
 
@@ -120,25 +120,3 @@ module _ {ttl : Option ℕ} {clock : ℕ} {rs : List TemplateRecord} {es : List 
       by_found None right h =
           all_map (λ e. e.label < 1024) (λ e. eqb 1024 e.label && expired_at ttl clock e.clock ≡ false)
           (λ e s. rw (ne_eqb 1024 e.label (λ q. omega arith))) es small
-
--- ---- whether no body goes as expired
-
-module _ (ttl : Option ℕ) (all : Bool) (count live : ℕ) where
-  pub none_aged : ttl ≡ None → true ≡ none_expires ttl all count live
-  unfolding none_expires
-  none_aged e = rw e
-
-  pub all_aged : (limit : ℕ) → ttl ≡ Some limit → all ≡ true → false ≡ none_expires ttl all count live
-  unfolding none_expires
-  all_aged limit e a = rw (e, a)
-
-  pub own_aged : (limit : ℕ) → ttl ≡ Some limit → all ≡ false → eqb count live ≡ none_expires ttl all count live
-  unfolding none_expires
-  own_aged limit e a = rw (e, a)
-
--- ---- whether nothing goes
-
-module _ (evicted chance : ℕ) (all unaged : Bool) where
-  pub certain : evicted ≤ 0 → chance ≤ 0 → all ≡ false → (unaged ≡ true → NothingGoes evicted chance all unaged)
-  certain e c a l =
-      record { evicts_none = omega arith; hands_none = omega arith; one_id = a; none_expired = l }

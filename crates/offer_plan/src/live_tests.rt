@@ -2,7 +2,6 @@
 ghost use Rattle.std.specs.Prelude.{◌≡◌};
 ghost use Rattle.offer_plan.specs.Plan.{live_test};
 
-
 use table::LABELS;
 use table_entries::StayTest;
 
@@ -15,6 +14,6 @@ pub fn live_test(ttl: Option<u64>, clock: u64) -> StayTest
         clock,
         all: true,
         label: LABELS as u64,
-        max_size: 18446744073709551615,
+        max_size: u64::MAX,
     }
 }

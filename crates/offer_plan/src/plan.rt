@@ -14,7 +14,7 @@ use super::evictions::evictions_for;
 use super::live_tests::live_test;
 use config::{PendingFlowsConfig, RECORD_WORDS};
 use pending_flows::HeaderFigures;
-use table::{LABELS, count_in, first_label, record_of, records_at};
+use table::{LABELS, TemplateRecord, count_in, first_label, record_of, records_at};
 use table_entries::sums_by_label;
 use table_records::{first_live, live_records, set_sum, skip_records};
 
@@ -48,13 +48,11 @@ struct Decision {
 fn live_found(found: Option<TemplateRecord>, live: usize) -> usize
     ensures { result ≡ live_found live found }
 {
-    match found {
-        Some(_) => live,
-        None => 0,
-    }
+    found.map_or(0, |_| live)
 }
 
 // Whether the records but the one that was found are as many as there may be.
+#[tactic(auto, using(crate::proofs::Live::found_fills, crate::proofs::Live::none_fills))]
 fn others_fill(found: Option<TemplateRecord>, records: usize, most: usize) -> bool
     ensures { result ≡ others_fill (label_in found) records most }
 {
@@ -168,40 +166,23 @@ fn decide(
 fn nothing_goes(evicted: usize, chance: u64, all: bool, none_expired: bool) -> bool
     ensures { result ≡ true → NothingGoes evicted chance all none_expired }
 {
-    if 0 < evicted {
-        return false;
-    }
-    if 0 < chance {
-        return false;
-    }
-    if all {
-        return false;
-    }
-    none_expired
+    evicted == 0 && chance == 0 && !all && none_expired
 }
 
 // The label of a record that was found; of none, what is no label.
 fn label_in(found: Option<TemplateRecord>) -> u64
     ensures { result ≡ label_or_none (label_in found) }
 {
-    match found {
-        Some(template) => template.label,
-        None => LABELS as u64,
-    }
+    found.map_or(LABELS as u64, |template| template.label)
 }
 
 // Whether it is certain that no body goes as expired: with no time to live, or where only the id's bodies can and as
 // many of them are live as its record counts.
+#[tactic(auto, unfolding(crate::specs::Plan::none_expires))]
 fn none_expires(ttl: Option<u64>, all: bool, count: u64, live: usize) -> bool
     ensures { result ≡ none_expires ttl all count live }
 {
-    let Some(_) = ttl else {
-        return true;
-    };
-    if all {
-        return false;
-    }
-    count == (live as u64)
+    ttl.is_none() || !all && count == (live as u64)
 }
 
 // What an offer of a body of this length decides, where the id has so many live bodies.
