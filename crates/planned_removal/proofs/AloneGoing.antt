@@ -2,14 +2,12 @@
 -- goes for its bytes and none for room. Assumes nothing.
 use Rattle.std.proofs.Common.{Option}
 use mathlib.Core.Path.{◌≡◌, refl, sym, ap, subst, ◌∙◌}
-use mathlib.Core.Bool.{Bool, true, false}
+use mathlib.Core.Bool.{Bool, true}
 use mathlib.Core.List.{List, [], ◌∷◌}
 use Prim.Native.Nat.{ℕ, ◌+◌, ◌*◌, ◌≤◌, ◌<◌}
 use native.Mathlib.Omega.{arith}
-use lib.Dec.{eqb}
 use lib.ListN.{length, set, take, replicate, length-set, length-replicate}
 use lib.Seq.{set_out}
-use borrow.Author.Tests.{eqb-true}
 use Rattle.config.specs.declared.PendingFlowsConfig.{PendingFlowsConfig}
 use Rattle.config.specs.Limits.{record_words}
 use Rattle.table.specs.declared.TemplateRecord.{TemplateRecord}
@@ -98,18 +96,6 @@ pub alone_removed : (w b : List ℕ) (ok : well_formed w (length b) ≡ true) (c
 alone_removed w b ok clock apart label plan stay alone small done =
     let goes = alone small in
     whole_planned w b ok clock apart plan stay goes.none_expired (sym goes.skips) done
-
--- whether nothing goes but expired bodies of the id
-module _ (f : HeaderFigures) (plan : OfferPlan) (apart : ℕ) where
-  pub certain : f.chance ≤ 0 → plan.evicted ≤ 0 → 1024 ≤ plan.first → plan.all ≡ false →
-      (eqb plan.label apart ≡ true → OnlyExpired f plan apart)
-  certain chance evicted first all own = record {
-    hands_none = omega arith;
-    evicts_none = omega arith;
-    none_for_room = first;
-    one_id = all;
-    own = eqb-true plan.label apart own;
-  }
 
 -- the removal of the expired bodies of the id is the planned one
 pub expired_alone : (w : List ℕ) (clock apart : ℕ) (plan : OfferPlan) {f : HeaderFigures} {l : PendingFlowsConfig}

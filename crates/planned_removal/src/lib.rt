@@ -27,7 +27,7 @@ fn stay_test(limits: PendingFlowsConfig, clock: u64, plan: OfferPlan) -> StayTes
         clock,
         all: plan.all,
         label: plan.label,
-        max_size: 18446744073709551615,
+        max_size: u64::MAX,
     }
 }
 
@@ -98,20 +98,11 @@ pub fn alone_label(
 fn only_expired(figures: HeaderFigures, plan: OfferPlan, apart: u64) -> bool
     ensures { result ≡ true → OnlyExpired figures plan apart }
 {
-    if 0 < figures.chance {
-        return false;
-    }
-    if 0 < plan.evicted {
-        return false;
-    }
-    let none = LABELS as u64;
-    if plan.first < none {
-        return false;
-    }
-    if plan.all {
-        return false;
-    }
-    plan.label == apart
+    figures.chance == 0
+        && plan.evicted == 0
+        && (LABELS as u64) <= plan.first
+        && !plan.all
+        && plan.label == apart
 }
 
 // Removes by the plan; no array is made where one template goes alone, or expired bodies of the id alone.
