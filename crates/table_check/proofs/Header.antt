@@ -80,7 +80,7 @@ module _ (w : List ℕ) (bytes : ℕ) where
     limits_refused x e =
         rw (le-leb header_words (length w) long, number_said, e, refused_number x)
 
-    module _ (accepted : a ≡ (Ok tt)) where
+    module _ (accepted : a ≡ Ok tt) where
       legal : LegalLimits l bytes (length w)
       legal = limits_say l bytes (length w) (sym said ∙ ap answer_number accepted)
 
