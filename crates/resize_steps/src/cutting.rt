@@ -28,7 +28,7 @@ fn small_enough(config: PendingFlowsConfig) -> StayTest
 fn beyond(many: usize, most: usize) -> usize
     ensures { result ≡ many - most }
 {
-    if many < most { 0 } else { many - most }
+    many.saturating_sub(most)
 }
 
 // What is to be skipped: the oldest bodies beyond the new cap; all of the least recent templates beyond the new number,
