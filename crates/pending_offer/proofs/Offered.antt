@@ -1,4 +1,6 @@
 -- The offer behind the tests of 6 and of 28. Assumes nothing.
+use Rattle.std.specs.Prelude.{⊤}
+use Rattle.pending_offer.specs.declared.offering.OfferRefusal.{OfferRefusal}
 use Rattle.std.proofs.Common.{Result, Ok, Err}
 use Rattle.table.specs.declared.Damaged.{Damaged}
 use mathlib.Core.Path.{◌≡◌, refl, sym, ap}
@@ -26,8 +28,6 @@ use Rattle.pending_calls.specs.Promises.{Does}
 use Rattle.pending_calls.proofs.Performed.{damaged_performs, performed, untouched_all}
 use Rattle.offer_plan.specs.Plan.{live_bodies}
 use Rattle.pending_offer.specs.declared.offering.OfferRefusal.TheVariants as Refusal
-use Rattle.pending_offer.specs.declared.offering.OfferAnswer.{OfferAnswer}
-use Rattle.pending_offer.specs.declared.offering.OfferAnswer.TheVariants as Offer
 use Rattle.pending_offer.specs.Promises.{body_of, Offers, DoesOffer}
 use Rattle.pending_offer.proofs.TooLong.{too_long_does}
 
@@ -42,14 +42,14 @@ size_within w n len l ok is small =
     )
 
 module _ (i : ℕ) (body : List ℕ) (clock : ℕ) (c : Cache) (a a' : Areas) where
-  pub cached_offer : Does (offered i (body_of body clock)) c a done a' → DoesOffer i body clock c a Offer.Cached a'
+  pub cached_offer : Does (offered i (body_of body clock)) c a done a' → DoesOffer i body clock c a (Ok tt) a'
   cached_offer d = record {
     does = d;
     too_long = λ e. let no : ◌≡◌ {A = ℕ} 0 1 = cc in absurd (omega arith);
   }
 
   pub full_offer : Does (offered i (body_of body clock)) c a (number 20) a' →
-      DoesOffer i body clock c a (Offer.Refused Refusal.TemplateFull) a'
+      DoesOffer i body clock c a (Err Refusal.TemplateFull) a'
   full_offer d = record {
     does = d;
     too_long = λ e. let no : ◌≡◌ {A = ℕ} 20 6 = cc in absurd (omega arith);
@@ -58,7 +58,7 @@ module _ (i : ℕ) (body : List ℕ) (clock : ℕ) (c : Cache) (a a' : Areas) wh
 pub too_long_offer : (w b : List ℕ) (i : ℕ) (body : List ℕ) (clock : ℕ) (l : PendingFlowsConfig) {w' : List ℕ} →
     well_formed w (length b) ≡ true → l ≡ limits_of w → l.max_entry_size_bytes < length body →
     w' ≡ set w dropped_at (raised (dropped_word w) 1) →
-    DoesOffer i body clock (cache_of (table_of w) b) (areas_of w b) (Offer.Refused Refusal.TooLong) (areas_of w' b)
+    DoesOffer i body clock (cache_of (table_of w) b) (areas_of w b) (Err Refusal.TooLong) (areas_of w' b)
 too_long_offer w b i body clock l ok is long counted = record {
   does = too_long_does w b ok i (body_of body clock)
       (omega (arith, ap (λ (k : PendingFlowsConfig). k.max_entry_size_bytes) is)) counted;
@@ -73,7 +73,7 @@ not_too_long w l len is h = omega (arith, ap (λ (k : PendingFlowsConfig). k.max
 -- the call, behind the test of 28 in which the id's live bodies are sought
 module _ (w b : List ℕ) (i : ℕ) (body : List ℕ) (clock : ℕ) {x : Result LabelSeen Damaged}
     (tested : x ≡ examined w (length b) (Sought.Live i clock)) where
-  pub offer_damaged : x ≡ Err (record {}) → Offers i body clock (areas_of w b) (Offer.Refused Refusal.Damaged)
+  pub offer_damaged : x ≡ Err (record {}) → Offers i body clock (areas_of w b) (Err Refusal.Damaged)
       (areas_of w b)
   offer_damaged e = record {
     performs = damaged_performs w b (is_damaged (well_formed w (length b)) _ tested e) (offered i (body_of body clock))
@@ -92,7 +92,7 @@ module _ (w b : List ℕ) (i : ℕ) (body : List ℕ) (clock : ℕ) {x : Result 
     pub offer_live : s.live ≡ live_bodies w i clock
     offer_live = live_counted w (length b) i clock tested seen (none_unlabelled w (length b) offer_legal)
 
-    pub offer_done : {w' b' : List ℕ} {r : OfferAnswer} →
+    pub offer_done : {w' b' : List ℕ} {r : Result ⊤ OfferRefusal} →
         DoesOffer i body clock (cache_of (table_of w) b) (areas_of w b) r (areas_of w' b') →
         Offers i body clock (areas_of w b) r (areas_of w' b')
     offer_done d = record {

@@ -1,4 +1,5 @@
 -- What an offer promises.
+use Rattle.std.specs.Prelude.{Result, Ok, Err, ⊤}
 use Rattle.std.specs.Prelude.{◌≡◌, List, ℕ, set}
 use Rattle.table.specs.Layout.{limits_of, dropped_word}
 use Rattle.cache_model.specs.Bodies.{Body}
@@ -9,8 +10,6 @@ use Rattle.pending_flows.specs.Header.{dropped_at}
 use Rattle.pending_calls.specs.Promises.{Performs, Does, UntouchedPast}
 use Rattle.pending_offer.specs.declared.offering.OfferRefusal.{OfferRefusal}
 use Rattle.pending_offer.specs.declared.offering.OfferRefusal.TheVariants as Refusal
-use Rattle.pending_offer.specs.declared.offering.OfferAnswer.{OfferAnswer}
-use Rattle.pending_offer.specs.declared.offering.OfferAnswer.TheVariants as Offer
 
 -- document 01's number of each refusal
 abbrev pub offer_number : OfferRefusal → ℕ
@@ -18,9 +17,9 @@ offer_number Refusal.TooLong = 6
 offer_number Refusal.TemplateFull = 20
 offer_number Refusal.Damaged = 28
 
-abbrev pub offer_answer : OfferAnswer → Answer
-offer_answer Offer.Cached = done
-offer_answer (Offer.Refused n) = number (offer_number n)
+abbrev pub offer_answer : Result ⊤ OfferRefusal → Answer
+offer_answer (Ok tt) = done
+offer_answer (Err n) = number (offer_number n)
 
 -- the body that is offered; offers are not numbered here
 abbrev pub body_of : List ℕ → ℕ → Body
@@ -31,13 +30,13 @@ abbrev pub one_dropped : Areas → Areas
 one_dropped a = areas_of (set a.words dropped_at (raised (dropped_word a.words) 1)) a.bytes
 
 -- "Number 6 adds one to `pending_dropped`, nothing else."
-pub record Offers (id : ℕ) (body : List ℕ) (now : ℕ) (a : Areas) (r : OfferAnswer) (a' : Areas) : Type 0 where
+pub record Offers (id : ℕ) (body : List ℕ) (now : ℕ) (a : Areas) (r : Result ⊤ OfferRefusal) (a' : Areas) : Type 0 where
   pub performs : Performs (offered id (body_of body now)) a (offer_answer r) a'
   pub too_long : offer_answer r ≡ number 6 → a' ≡ one_dropped a
   pub frame : UntouchedPast (limits_of a.words) a a'
 
 -- what an offer does to a well-formed cache c
-pub record DoesOffer (id : ℕ) (body : List ℕ) (now : ℕ) (c : Cache) (a : Areas) (r : OfferAnswer) (a' : Areas)
+pub record DoesOffer (id : ℕ) (body : List ℕ) (now : ℕ) (c : Cache) (a : Areas) (r : Result ⊤ OfferRefusal) (a' : Areas)
     : Type 0 where
   pub does : Does (offered id (body_of body now)) c a (offer_answer r) a'
   pub too_long : offer_answer r ≡ number 6 → a' ≡ one_dropped a

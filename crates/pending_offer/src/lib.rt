@@ -3,4 +3,4 @@
 
 mod offering;
 
-pub use offering::{OfferAnswer, OfferRefusal, cache};
+pub use offering::{OfferRefusal, cache};

@@ -9,7 +9,8 @@ ghost use Rattle.pending_flows.specs.Header.{figures_at};
 ghost use Rattle.pending_flows.specs.View.{areas_of, cache_of};
 ghost use Rattle.pending_calls.specs.Promises.{Does};
 ghost use Rattle.offer_plan.specs.Plan.{Plans, live_bodies};
-ghost use Rattle.pending_offer.specs.Promises.{body_of, Offers, DoesOffer};
+ghost use Rattle.pending_offer.specs.Promises.{body_of, offer_number, Offers, DoesOffer};
+ghost use Rattle.pending_offer.specs.declared.offering.OfferRefusal.TheVariants as OfferRefusal;
 
 use config::PendingFlowsConfig;
 use offer_plan::{OfferPlan, plan_offer};
@@ -17,25 +18,36 @@ use offer_steps::{add_body, choose_label, count_drop, held_bodies, settle};
 use packed_removal::remove_for_body;
 use pending_flows::{HeaderFigures, figures_at};
 use planned_removal::remove_planned;
-use table::{LABELS, limits_at};
+use table::{Damaged, LABELS, limits_at};
 use table_watch::Sought;
 
 // Why a body is not accepted. Number 21 is none of them: no offer can reach it.
-#[derive(Clone, Copy)]
+#[derive(Clone, Copy, Debug, PartialEq, Eq)]
 pub enum OfferRefusal {
-    // number 6
     TooLong,
-    // number 20
     TemplateFull,
-    // number 28
     Damaged,
 }
 
-// What an offer answers.
-#[derive(Clone, Copy)]
-pub enum OfferAnswer {
-    Cached,
-    Refused(OfferRefusal),
+impl From<Damaged> for OfferRefusal {
+    ghost from_gives = { λ _ refusal. refusal ≡ OfferRefusal.Damaged };
+
+    fn from(_damaged: Damaged) -> OfferRefusal {
+        OfferRefusal::Damaged
+    }
+}
+
+// Document 01's number of a refusal.
+impl From<OfferRefusal> for u32 {
+    ghost from_gives = { λ refusal number. number ≡ offer_number refusal };
+
+    fn from(refusal: OfferRefusal) -> u32 {
+        match refusal {
+            OfferRefusal::TooLong => 6,
+            OfferRefusal::TemplateFull => 20,
+            OfferRefusal::Damaged => 28,
+        }
+    }
 }
 
 // Stores a body that is accepted, with what its plan removes.
@@ -120,7 +132,7 @@ fn offer_body(
     body: &[u8],
     clock: u64,
     live: usize,
-) -> OfferAnswer
+) -> Result<(), OfferRefusal>
     requires bytes_value { (well_formed words.old (length bytes.old) ≡ true) × (id < 65536) }
     requires body_len_bound { length body.now ≤ (limits_of words.old).max_entry_size_bytes }
     requires live_value { live ≡ live_bodies words.old id clock }
@@ -133,10 +145,10 @@ fn offer_body(
     let plan = plan_offer(words, bytes, limits, figures, id, len, clock, live);
     if plan.full {
         turn_down(words, bytes, limits, figures, plan, id, body, clock);
-        return OfferAnswer::Refused(OfferRefusal::TemplateFull);
+        return Err(OfferRefusal::TemplateFull);
     }
     accept(words, bytes, limits, figures, plan, id, body, clock);
-    OfferAnswer::Cached
+    Ok(())
 }
 
 // Offers a body to a well-formed cache, in which the id has so many live bodies.
@@ -147,7 +159,7 @@ fn offer(
     body: &[u8],
     clock: u64,
     live: usize,
-) -> OfferAnswer
+) -> Result<(), OfferRefusal>
     requires bytes_value { (well_formed words.old (length bytes.old) ≡ true) × (id < 65536) }
     requires live_value { live ≡ live_bodies words.old id clock }
     ensures { DoesOffer id body.now clock (cache_of (table_of words.old) bytes.old)
@@ -155,13 +167,19 @@ fn offer(
 {
     if limits_at(words).max_entry_size_bytes < body.len() {
         count_drop(words);
-        return OfferAnswer::Refused(OfferRefusal::TooLong);
+        return Err(OfferRefusal::TooLong);
     }
     offer_body(words, bytes, id, body, clock, live)
 }
 
 // Offers a body: it is cached, or turned down. Either way other bodies may go.
-pub fn cache(words: &mut [u64], bytes: &mut [u8], id: u16, body: &[u8], clock: u64) -> OfferAnswer
+pub fn cache(
+    words: &mut [u64],
+    bytes: &mut [u8],
+    id: u16,
+    body: &[u8],
+    clock: u64,
+) -> Result<(), OfferRefusal>
     ensures { Offers id body.now clock (areas_of words.old bytes.old) result
         (areas_of words.new bytes.new) }
 {
@@ -169,8 +187,6 @@ pub fn cache(words: &mut [u64], bytes: &mut [u8], id: u16, body: &[u8], clock: u
         id: id as u64,
         clock,
     };
-    let Ok(seen) = table_check::examine(words, bytes.len(), sought) else {
-        return OfferAnswer::Refused(OfferRefusal::Damaged);
-    };
+    let seen = table_check::examine(words, bytes.len(), sought)?;
     offer(words, bytes, id as u64, body, clock, seen.live)
 }
