@@ -1,7 +1,6 @@
 -- The resize behind its tests: damaged areas, refused limits, or a cache that is resized. Assumes nothing.
-use Rattle.std.proofs.Common.{Result, Ok, Err}
-use Rattle.std.specs.Prelude.{⊤}
-use mathlib.Core.Path.{◌≡◌, refl, sym, ap, ◌∙◌}
+use Rattle.std.proofs.Common.{Ok, Err}
+use mathlib.Core.Path.{◌≡◌, refl, sym, ◌∙◌}
 use mathlib.Core.Bool.{Bool, true, false, not}
 use mathlib.Core.List.{List}
 use mathlib.Core.Option.{some}
@@ -12,14 +11,13 @@ use borrow.Author.Tests.{eq-eqb, ne_eqb, not-true, not-false}
 use Rattle.config.specs.declared.PendingFlowsConfig.{PendingFlowsConfig}
 use Rattle.config.specs.declared.ConfigRefusal.{ConfigRefusal}
 use Rattle.config.specs.declared.ConfigRefusal.TheVariants.{NoTemplates, NoEntries, EntrySize, TotalBytes, Areas}
-use Rattle.config.specs.Limits.{refusal_number, answer_number, config_number}
+use Rattle.config.specs.Limits.{refusal_number, config_number}
 use Rattle.table.specs.Table.{table_of}
 use Rattle.table.specs.WellFormed.{well_formed}
 use Rattle.cache_model.specs.Calls.{resized}
 use Rattle.pending_flows.specs.View.{areas_of, cache_of, view}
 use Rattle.pending_calls.proofs.Performed.{damaged_performs, view_some, untouched_all, some_none}
-use Rattle.pending_resize.specs.declared.resizing.ResizeAnswer.{ResizeAnswer}
-use Rattle.pending_resize.specs.declared.resizing.ResizeAnswer.TheVariants as Resize
+use Rattle.pending_resize.specs.declared.resizing.ResizeRefusal.TheVariants as Refusal
 use Rattle.pending_resize.specs.Promises.{Resizes, ResizesTo}
 
 -- a refusal has a number
@@ -30,64 +28,47 @@ refusal_some EntrySize e = omega arith
 refusal_some TotalBytes e = omega arith
 refusal_some Areas e = omega arith
 
--- bodies dropped are no refusal
-is_refused : ResizeAnswer → ℕ
-is_refused (Resize.Dropped n) = 0
-is_refused (Resize.Refused n) = 1
-is_refused Resize.Damaged = 0
-
-dropped_refused : {k : ℕ} {n : ConfigRefusal} → Resize.Dropped k ≡ Resize.Refused n → ⊥
-unfolding is_refused
-dropped_refused e = let z : ◌≡◌ {A = ℕ} 0 1 = ap is_refused e in omega arith
-
 module _ (l : PendingFlowsConfig) (w b : List ℕ) {v : Bool} (tested : v ≡ well_formed w (length b)) where
-  pub resize_damaged : not v ≡ true → Resizes l (areas_of w b) Resize.Damaged (areas_of w b)
+  pub resize_damaged : not v ≡ true → Resizes l (areas_of w b) (Err Refusal.Damaged) (areas_of w b)
   resize_damaged h = record {
     performs = damaged_performs w b tested (resized l (length b) (length w)) (not-true v h);
     refused = λ n e. refl;
     frame = untouched_all _ _ _;
   }
 
-  module _ (h : not v ≡ false) (a : Result ⊤ ConfigRefusal) (answered : answer_number a ≡ config_number l (length b) (length w))
-    where
-      cached : view (areas_of w b) ≡ some (cache_of (table_of w) b)
-      cached = view_some w b tested (not-false v h)
+  module _ (h : not v ≡ false) where
+    cached : view (areas_of w b) ≡ some (cache_of (table_of w) b)
+    cached = view_some w b tested (not-false v h)
 
-      pub resize_refused : {n : ConfigRefusal} → a ≡ Err n →
-          Resizes l (areas_of w b) (Resize.Refused n) (areas_of w b)
+    pub resize_refused : {n : ConfigRefusal} → refusal_number n ≡ config_number l (length b) (length w) →
+        Resizes l (areas_of w b) (Err (Refusal.Limits n)) (areas_of w b)
+    unfolding resized
+    resize_refused {n} e = record {
+      performs = record {
+        answer = rw (cached, ← e, ne_eqb (refusal_number n) 0 (refusal_some n));
+        holds = rw (cached, ← e, ne_eqb (refusal_number n) 0 (refusal_some n));
+        damaged = λ _. refl;
+      };
+      refused = λ m e. refl;
+      frame = untouched_all _ _ _;
+    }
+
+    module _ (accepted : 0 ≡ config_number l (length b) (length w)) where
+      pub resize_legal : (well_formed w (length b) ≡ true) × (config_number l (length b) (length w) ≡ 0)
+      resize_legal = (sym tested ∙ not-false v h, sym accepted)
+
+      pub resize_done : {w' b' : List ℕ} {k : ℕ} →
+          ResizesTo l (cache_of (table_of w) b) (areas_of w b) k (areas_of w' b') →
+          Resizes l (areas_of w b) (Ok k) (areas_of w' b')
       unfolding resized
-      resize_refused {n} is =
-          let number_is : config_number l (length b) (length w) ≡ refusal_number n = sym answered ∙ ap answer_number
-          is in
+      resize_done s =
+          let zero = eq-eqb (config_number l (length b) (length w)) 0 (sym accepted) in
           record {
             performs = record {
-              answer = rw (cached, number_is, ne_eqb (refusal_number n) 0 (refusal_some n));
-              holds = rw (cached, number_is, ne_eqb (refusal_number n) 0 (refusal_some n));
-              damaged = λ _. refl;
+              answer = rw (cached, zero) s.answer;
+              holds = rw (cached, zero) s.holds;
+              damaged = λ n. absurd (some_none (sym cached ∙ n));
             };
-            refused = λ m e. refl;
-            frame = untouched_all _ _ _;
+            refused = λ n e. let z : ◌≡◌ {A = ℕ} 0 1 = cc in absurd (omega arith);
+            frame = s.frame;
           }
-
-      module _ (is : a ≡ (Ok tt)) where
-        accepted : config_number l (length b) (length w) ≡ 0
-        accepted = sym answered ∙ ap answer_number is
-
-        pub resize_legal : (well_formed w (length b) ≡ true) × (config_number l (length b) (length w) ≡ 0)
-        resize_legal = (sym tested ∙ not-false v h, accepted)
-
-        pub resize_done : {w' b' : List ℕ} {k : ℕ} →
-            ResizesTo l (cache_of (table_of w) b) (areas_of w b) k (areas_of w' b') →
-            Resizes l (areas_of w b) (Resize.Dropped k) (areas_of w' b')
-        unfolding resized
-        resize_done s =
-            let zero = eq-eqb (config_number l (length b) (length w)) 0 accepted in
-            record {
-              performs = record {
-                answer = rw (cached, zero) s.answer;
-                holds = rw (cached, zero) s.holds;
-                damaged = λ n. absurd (some_none (sym cached ∙ n));
-              };
-              refused = λ n e. absurd (dropped_refused e);
-              frame = s.frame;
-            }

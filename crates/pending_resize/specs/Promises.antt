@@ -1,4 +1,5 @@
 -- What a resize promises.
+use Rattle.std.specs.Prelude.{Result, Ok, Err}
 use Rattle.std.specs.Prelude.{◌≡◌, ℕ, max, length}
 use Rattle.std.proofs.Math.Option.{some}
 use Rattle.config.specs.declared.PendingFlowsConfig.{PendingFlowsConfig}
@@ -10,19 +11,22 @@ use Rattle.cache_model.specs.Calls.{shrunk, resized_to, resized}
 use Rattle.pending_flows.specs.View.{Areas, view}
 use Rattle.pending_calls.specs.Promises.{Performs, Untouched}
 use Rattle.pending_resize.specs.Shrink.{UntouchedByBoth}
-use Rattle.pending_resize.specs.declared.resizing.ResizeAnswer.{ResizeAnswer}
-use Rattle.pending_resize.specs.declared.resizing.ResizeAnswer.TheVariants as Resize
+use Rattle.pending_resize.specs.declared.resizing.ResizeRefusal.{ResizeRefusal}
+use Rattle.pending_resize.specs.declared.resizing.ResizeRefusal.TheVariants as Refusal
 
--- document 01's answer of each case
-abbrev pub resize_answer : ResizeAnswer → Answer
-resize_answer (Resize.Dropped n) = count n
-resize_answer (Resize.Refused n) = number (refusal_number n)
-resize_answer Resize.Damaged = number 28
+-- document 01's number of each refusal, and its answer of each case
+abbrev pub resize_number : ResizeRefusal → ℕ
+resize_number (Refusal.Limits n) = refusal_number n
+resize_number Refusal.Damaged = 28
+
+abbrev pub resize_answer : Result ℕ ResizeRefusal → Answer
+resize_answer (Ok n) = count n
+resize_answer (Err n) = number (resize_number n)
 
 -- Refused, with 1 to 5, it changes nothing at all. Else nothing is touched past the larger of both needs.
-pub record Resizes (l : PendingFlowsConfig) (a : Areas) (r : ResizeAnswer) (a' : Areas) : Type 0 where
+pub record Resizes (l : PendingFlowsConfig) (a : Areas) (r : Result ℕ ResizeRefusal) (a' : Areas) : Type 0 where
   pub performs : Performs (resized l (length a.bytes) (length a.words)) a (resize_answer r) a'
-  pub refused : (n : ConfigRefusal) → r ≡ Resize.Refused n → a' ≡ a
+  pub refused : (n : ConfigRefusal) → r ≡ Err (Refusal.Limits n) → a' ≡ a
   pub frame : Untouched (max (words_needed (limits_of a.words)) (words_needed l))
       (max (limits_of a.words).max_total_bytes l.max_total_bytes) a a'
 

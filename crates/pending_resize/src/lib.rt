@@ -4,4 +4,4 @@
 mod resizing;
 mod shrinking;
 
-pub use resizing::{ResizeAnswer, resize};
+pub use resizing::{ResizeRefusal, resize};

@@ -5,7 +5,8 @@ ghost use Rattle.table.specs.Table.{table_of};
 ghost use Rattle.table.specs.WellFormed.{well_formed};
 ghost use Rattle.cache_model.specs.Cache.{raised};
 ghost use Rattle.pending_flows.specs.View.{areas_of, cache_of};
-ghost use Rattle.pending_resize.specs.Promises.{ResizesTo, Resizes};
+ghost use Rattle.pending_resize.specs.Promises.{resize_number, ResizesTo, Resizes};
+ghost use Rattle.pending_resize.specs.declared.resizing.ResizeRefusal.TheVariants as ResizeRefusal;
 
 use super::shrinking::shrink;
 use config::{ConfigRefusal, PendingFlowsConfig};
@@ -13,15 +14,31 @@ use pending_calls::raised;
 use pending_flows::{HeaderFigures, figures_at, handed_count, write_header};
 use table::{limits_at, records_at};
 
-// What a resize answers.
-#[derive(Clone, Copy)]
-pub enum ResizeAnswer {
-    // so many bodies are dropped
-    Dropped(usize),
-    // numbers 1 to 5
-    Refused(ConfigRefusal),
-    // number 28
+// Why a cache is not resized.
+#[derive(Clone, Copy, Debug, PartialEq, Eq)]
+pub enum ResizeRefusal {
+    Limits(ConfigRefusal),
     Damaged,
+}
+
+impl From<ConfigRefusal> for ResizeRefusal {
+    ghost from_gives = { λ limits refusal. refusal ≡ ResizeRefusal.Limits limits };
+
+    fn from(limits: ConfigRefusal) -> ResizeRefusal {
+        ResizeRefusal::Limits(limits)
+    }
+}
+
+// Document 01's number of a refusal.
+impl From<ResizeRefusal> for u32 {
+    ghost from_gives = { λ refusal number. number ≡ resize_number refusal };
+
+    fn from(refusal: ResizeRefusal) -> u32 {
+        match refusal {
+            ResizeRefusal::Limits(limits) => limits.into(),
+            ResizeRefusal::Damaged => 28,
+        }
+    }
 }
 
 // Resizes a well-formed cache to limits that are not refused; answers how many bodies are dropped.
@@ -50,17 +67,19 @@ fn resize_cache(words: &mut [u64], bytes: &mut [u8], config: PendingFlowsConfig)
     dropped as usize
 }
 
-// Changes the limits and drops the bodies that they do not leave room for; the counters go on, and nothing stays handed
-// out. Limits that are refused change nothing.
-pub fn resize(words: &mut [u64], bytes: &mut [u8], config: PendingFlowsConfig) -> ResizeAnswer
+// Changes the limits and drops the bodies that they do not leave room for, and answers how many; the counters go on,
+// and nothing stays handed out. Limits that are refused change nothing.
+pub fn resize(
+    words: &mut [u64],
+    bytes: &mut [u8],
+    config: PendingFlowsConfig,
+) -> Result<usize, ResizeRefusal>
     ensures { Resizes config (areas_of words.old bytes.old) result
         (areas_of words.new bytes.new) }
 {
     if !table_check::well_formed(words, bytes.len()) {
-        return ResizeAnswer::Damaged;
+        return Err(ResizeRefusal::Damaged);
     }
-    match config::validate_config(config, bytes.len(), words.len()) {
-        Err(refusal) => ResizeAnswer::Refused(refusal),
-        Ok(()) => ResizeAnswer::Dropped(resize_cache(words, bytes, config)),
-    }
+    config::validate_config(config, bytes.len(), words.len())?;
+    Ok(resize_cache(words, bytes, config))
 }
