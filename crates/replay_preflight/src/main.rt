@@ -4,21 +4,12 @@
 // with reading 0 (v9 fixed), 1 (IPFIX fixed) or 2 (IPFIX variable), and 0 for what a refusal does not give.
 #![tactic(auto)]
 
-ghost use Rattle.std.specs.Prelude.{◌≤◌, ◌≡◌, length};
+ghost use Rattle.std.specs.Prelude.{◌≡◌};
 ghost use Rattle.replay_preflight.specs.Same.{same_figures};
 
 use output_preflight::{Figures, answer_figures};
-use recorded::{
-    BUFFER, BUFFERS, Tally, fill, first_digit, move_to_front, next_number, whole_lines,
-};
+use recorded::{BUFFER, BUFFERS, Tally, fill, move_to_front, next_number, whole_lines};
 use wire::Reading;
-
-// A row's end in the text, and whether the answer is the recorded one.
-#[derive(Clone, Copy)]
-struct Compared {
-    next: usize,
-    same: bool,
-}
 
 // The reading with a number of the list. No `TryFrom`: neither type is of this crate.
 fn reading_of(n: u64) -> Reading {
@@ -55,22 +46,19 @@ fn same_figures(a: Figures, b: Figures) -> bool
     a == b
 }
 
-// Compares an answer with the one recorded from `at` on.
-fn compare(text: &[u8], at: usize, got: Figures) -> Compared {
-    let number = next_number(text, at);
-    let values = next_number(text, number.next);
-    let payload = next_number(text, values.next);
-    let remainder = next_number(text, payload.next);
+// Whether an answer is the one recorded in a row from `at` on.
+fn is_recorded(row: &[u8], at: usize, got: Figures) -> bool {
+    let number = next_number(row, at);
+    let values = next_number(row, number.next);
+    let payload = next_number(row, values.next);
+    let remainder = next_number(row, payload.next);
     let recorded = Figures {
         number: number.value,
         values: values.value,
         payload: payload.value,
         remainder: remainder.value,
     };
-    Compared {
-        next: remainder.next,
-        same: same_figures(got, recorded),
-    }
+    same_figures(got, recorded)
 }
 
 // The preflight on the first bytes and widths of their rooms; a number of none where they are more than the room.
@@ -98,36 +86,26 @@ fn no_room() -> Figures {
     }
 }
 
-// Runs the row that begins at `at`.
-fn run_row(text: &[u8], at: usize, widths: &mut [u16], body: &mut [u8]) -> Compared {
-    let reading = next_number(text, at);
-    let limit = next_number(text, reading.next);
-    let n = next_number(text, limit.next);
+// Runs a row, and answers whether it is as recorded.
+fn run_row(row: &[u8], widths: &mut [u16], body: &mut [u8]) -> bool {
+    let reading = next_number(row, 0);
+    let limit = next_number(row, reading.next);
+    let n = next_number(row, limit.next);
     let fields = n.value as usize;
-    let after_widths = read_numbers(text, n.next, fields, widths, |n| (n % 65536) as u16);
-    let m = next_number(text, after_widths);
+    let after_widths = read_numbers(row, n.next, fields, widths, |n| (n % 65536) as u16);
+    let m = next_number(row, after_widths);
     let body_len = m.value as usize;
-    let after_body = read_numbers(text, m.next, body_len, body, |n| (n % 256) as u8);
+    let after_body = read_numbers(row, m.next, body_len, body, |n| (n % 256) as u8);
     let got = run_preflight(body, body_len, widths, fields, reading.value, limit.value);
-    compare(text, after_body, got)
+    is_recorded(row, after_body, got)
 }
 
-// Runs the rows of a text, and names those that differ.
+// Runs the rows of a text, a line each, and names those that differ.
 fn run_rows(rt: &impl Print, text: &[u8], mut tally: Tally) -> Tally {
     let mut widths = [0u16; 1024];
     let mut body = [0u8; 1024];
-    let mut at: usize = 0;
-    while at < text.len() {
-        let start = first_digit(text, at);
-        if start == text.len() {
-            break;
-        }
-        let compared = run_row(text, start, &mut widths, &mut body);
-        tally = tally.with_row(rt, compared.same);
-        if compared.next <= at {
-            break;
-        }
-        at = compared.next;
+    for row in text.split_inclusive(|byte| *byte == b'\n') {
+        tally = tally.with_row(rt, run_row(row, &mut widths, &mut body));
     }
     tally
 }
