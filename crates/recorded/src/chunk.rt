@@ -1,5 +1,6 @@
 // A text that is longer than the buffer: whole lines are used up, and what follows them moves to the front.
-ghost use Rattle.std.specs.Prelude.{◌≡◌, ◌-◌, ◌≤◌, length, take};
+ghost use Rattle.std.specs.Prelude.{◌≡◌, ◌-◌, ◌≤◌, length, take, drop};
+ghost use Rattle.std.specs.Io.KnownBytes.{Consumes};
 ghost use Rattle.std.specs.List.{copy_within};
 ghost use Rattle.pendlist_input.specs.Input.{whole_lines};
 
@@ -10,7 +11,8 @@ pub const BUFFER: usize = 65536;
 
 // One read into the buffer, and how many bytes it brought. A read that fails brings none.
 fn read_some<R: Read>(reader: &mut R, buffer: &mut [u8]) -> usize
-    ensures { result ≤ length buffer.old }
+    ensures within { result ≤ length buffer.old }
+    ensures taken { Consumes (R.remaining reader.old) (R.remaining reader.new) (take result buffer.new) }
 {
     match reader.read(buffer) {
         Ok(n) => n,
@@ -20,15 +22,16 @@ fn read_some<R: Read>(reader: &mut R, buffer: &mut [u8]) -> usize
 
 // Reads until the buffer is full, the text ends or a read fails, and answers how many bytes the buffer then has.
 pub fn read_full<R: Read>(reader: &mut R, buffer: &mut [u8]) -> usize
-    ensures { result ≤ length buffer.old }
+    ensures within { result ≤ length buffer.old }
+    ensures taken { Consumes (R.remaining reader.old) (R.remaining reader.new) (take result buffer.new) }
 {
     let mut done: usize = 0;
     while done < buffer.len() {
         let n = read_some(reader, &mut buffer[done..]);
-        if n == 0 {
-            break;
-        }
         done += n;
+        if n == 0 {
+            return done;
+        }
     }
     done
 }
@@ -36,7 +39,9 @@ pub fn read_full<R: Read>(reader: &mut R, buffer: &mut [u8]) -> usize
 // Reads the text into the buffer behind its first `kept` bytes, and answers how many bytes it then has.
 pub fn fill<R: Read>(reader: &mut R, buffer: &mut [u8], kept: usize) -> usize
     requires { kept ≤ length buffer.old }
-    ensures { result ≤ length buffer.old }
+    ensures within { result ≤ length buffer.old }
+    ensures front { take kept buffer.new ≡ take kept buffer.old }
+    ensures taken { Consumes (R.remaining reader.old) (R.remaining reader.new) (drop kept (take result buffer.new)) }
 {
     let more = read_full(reader, &mut buffer[kept..]);
     kept + more
