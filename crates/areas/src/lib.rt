@@ -1,9 +1,9 @@
-// Copying into the lent areas and moving within them, over one set of definitions and laws: words one or four at a
-// time, to a lower or a higher place, and bytes by blocks, to a lower one.
+// Copying into the lent areas and moving within them, over one set of definitions and laws: elements of any kind one at
+// a time, to a lower or a higher place, and four words or bytes by blocks through an array.
 #![tactic(auto)]
 
-mod bytes;
-mod words;
+mod copying;
+mod moving;
 
-pub use bytes::{copy_bytes, move_bytes_down, write_body};
-pub use words::{copy_words, move_four, move_words};
+pub use copying::{copy_to_front, write_at};
+pub use moving::{move_bytes_down, move_four, move_within};

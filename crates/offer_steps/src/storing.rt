@@ -7,7 +7,7 @@ ghost use Rattle.table.specs.WellFormed.{places_legal};
 ghost use Rattle.offer_steps.specs.Room.{MakesRoom, entry_of, StoresBody, RoomFor, AddsBody};
 ghost use Rattle.offer_steps.specs.Room.{LabelRoom, ChoosesLabel};
 
-use areas::write_body;
+use areas::write_at;
 use config::{ENTRY_WORDS, HEADER_WORDS, PendingFlowsConfig};
 use pending_calls::Removed;
 use table::{Entry, LABELS, TemplateRecord, records_at};
@@ -52,7 +52,7 @@ fn store_body(
         clock,
     };
     put_entry(words, HEADER_WORDS + ENTRY_WORDS * entries, entry);
-    write_body(bytes, place, body);
+    write_at(bytes, place, body);
 }
 
 // The label of the id's template, or, where that is none, one that no record has.

@@ -68,5 +68,5 @@ pub fn write_header(words: &mut [u64], config: PendingFlowsConfig, figures: Head
         figures.entries,
         figures.chance,
     ];
-    areas::copy_words(words, &header);
+    areas::copy_to_front(words, &header);
 }

@@ -38,6 +38,6 @@ pub fn shrink(
     let left = fit_total(words, from, few.records, few.entries, few.bytes, room);
     fit_places(words, bytes, left.entries, room);
     let to = records_at(config);
-    areas::move_words(words, from, to, RECORD_WORDS * left.records);
+    areas::move_within(words, from, to, RECORD_WORDS * left.records);
     left
 }

@@ -4,7 +4,7 @@
 ghost use Rattle.std.specs.Prelude.{◌+◌, ◌*◌, ◌≤◌, length};
 ghost use Rattle.pendlist_rows.specs.Text.{number_text, numbers_text, row_text, outcome_text, Puts};
 
-use areas::write_body;
+use areas::write_at;
 use itoa::Buffer;
 
 // A row of the table.
@@ -40,7 +40,7 @@ fn put_number(out: &mut [u8], at: usize, n: u64) -> usize
     let mut buffer = Buffer::new();
     let digits = buffer.format(n).as_bytes();
     out[at] = b' ';
-    write_body(out, at + 1, digits);
+    write_at(out, at + 1, digits);
     at + 1 + digits.len()
 }
 
@@ -81,7 +81,7 @@ pub fn put_outcome(out: &mut [u8], at: usize, outcome: Outcome) -> usize
         Outcome::Opened => at,
         Outcome::Told(row) => put_row(out, at, row),
         Outcome::Bad => {
-            write_body(out, at, b"bad\n");
+            write_at(out, at, b"bad\n");
             at + 4
         }
     }

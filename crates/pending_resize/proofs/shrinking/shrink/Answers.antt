@@ -26,8 +26,8 @@ overflow_mul-left c = let fits =
     c.fit_places.ensures c.fit_places.auto.words c.fit_places.auto.bytes in
     omega (arith, fits)
 
-pub move_words-requires : goal.move_words-requires
-move_words-requires c = let fits =
+pub move_within-requires : goal.move_within-requires
+move_within-requires c = let fits =
     move_fits _ _ _ _ _ c.requires.bytes_value c.requires.from_value c.cut-few.ensures c.fit_total-left.ensures
     c.fit_places.ensures c.fit_places.auto.words c.fit_places.auto.bytes
     c.records_at-to.ensures in
@@ -36,4 +36,4 @@ move_words-requires c = let fits =
 pub returns : goal.returns
 returns c = shrinks _ _ _ _ _ c.requires.bytes_value c.requires.from_value c.cut-few.ensures c.fit_total-left.ensures
     c.fit_places.ensures c.fit_places.auto.words c.fit_places.auto.bytes
-    c.records_at-to.ensures c.move_words.ensures c.move_words.auto.area
+    c.records_at-to.ensures c.move_within.ensures c.move_within.auto.area

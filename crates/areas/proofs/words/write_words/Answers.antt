@@ -1,6 +1,0 @@
-use borrow.Author.Rules.{rules}
-use Rattle.areas.proofs.Puts.{range_written}
-use Rattle.areas.proofs.words.write_words.Goals as goal
-
-pub returns : goal.returns
-returns c = search (range_written, rules)

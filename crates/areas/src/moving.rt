@@ -1,0 +1,85 @@
+// Moving within an area.
+ghost use Rattle.std.specs.Prelude.{◌≡◌, ◌+◌, ◌≤◌, ◌<◌, length};
+ghost use Rattle.areas.specs.Overwrite.{moved};
+
+use crate::copying::{copy_to_front, write_at};
+
+// How many words `move_four` reads before it writes the first.
+const FOUR: usize = 4;
+
+// The most bytes that are read before the first of them is written.
+const BLOCK: usize = 2048;
+
+// As many in a long area, where fewer are quicker: most of all where source and target lie a few bytes less than whole
+// pages apart (docs/BENCHMARKS.md).
+const SHORT_BLOCK: usize = 512;
+
+// A longer area is a long one: the processor's own caches do not hold it.
+const LONG_AREA: usize = 524288;
+
+// Moves `len` elements within the area, however source and target overlap.
+#[tactic(auto, using(crate::proofs::Moves::copied_within))]
+pub fn move_within<T: Copy>(area: &mut [T], from: usize, to: usize, len: usize)
+    requires { (from + len ≤ length area.old) × (to + len ≤ length area.old) }
+    ensures { area.new ≡ moved from to len area.old }
+{
+    area.copy_within(from..from + len, to);
+}
+
+// Moves as many elements as `block` holds. All are read before the first is written, so source and target may overlap;
+// and of both copying, with a local array for `block`, the compiler makes loads and stores or one call of the C library's
+// `memmove`, with no array (docs/DECISIONS.md).
+#[tactic(auto, using(crate::proofs::Moves::block_moved))]
+fn move_through<T: Copy>(area: &mut [T], from: usize, to: usize, block: &mut [T])
+    requires { (from + length block.old ≤ length area.old) × (to + length block.old ≤ length area.old) }
+    ensures { area.new ≡ moved from to (length block.old) area.old }
+{
+    let end = from + block.len();
+    copy_to_front(block, &area[from..end]);
+    write_at(area, to, block);
+}
+
+// Moves four words: two loads and two stores of 16 bytes.
+pub fn move_four(area: &mut [u64], from: usize, to: usize)
+    requires { (from + 4 ≤ length area.old) × (to + 4 ≤ length area.old) }
+    ensures { area.new ≡ moved from to 4 area.old }
+{
+    let mut four: [u64; FOUR] = [0; FOUR];
+    move_through(area, from, to, &mut four);
+}
+
+// How many bytes a move within an area of so many reads at once. Any number that an array holds would do, so none is
+// promised.
+fn block_in(area: usize) -> usize
+    ensures { (0 < result) × (result ≤ 2048) }
+{
+    if area > LONG_AREA {
+        return SHORT_BLOCK;
+    }
+    BLOCK
+}
+
+// Moves a block or less.
+fn move_block(area: &mut [u8], from: usize, to: usize, len: usize)
+    requires { (from + len ≤ length area.old) × (to + len ≤ length area.old) × (len ≤ 2048) }
+    ensures { area.new ≡ moved from to len area.old }
+{
+    let mut block: [u8; BLOCK] = [0; BLOCK];
+    move_through(area, from, to, &mut block[..len]);
+}
+
+// Moves `len` bytes to a lower place: from the front, so that a block is read before it is overwritten. To the same
+// place nothing is copied, as bodies before the first gap may be many.
+#[tactic(auto, using(crate::proofs::Moves::moved_to_itself, crate::proofs::Moves::moved_none, crate::proofs::Moves::moved_further))]
+pub fn move_bytes_down(area: &mut [u8], from: usize, to: usize, len: usize)
+    requires { (from + len ≤ length area.old) × (to ≤ from) }
+    ensures { area.new ≡ moved from to len area.old }
+{
+    if to == from {
+        return;
+    }
+    let block = block_in(area.len());
+    for done in (0..len).step_by(block) {
+        move_block(area, from + done, to + done, block.min(len - done));
+    }
+}
