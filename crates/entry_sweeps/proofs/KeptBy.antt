@@ -1,6 +1,5 @@
 -- What a sweep by a test on each entry keeps, where only entries of one label can fail. Assumes nothing.
-use Rattle.std.proofs.Common.{Some}
-use Rattle.std.proofs.Common.{◌≡◌, ℕ, suc, ◌+◌, ◌-◌, ◌≤◌, Bool, true, false, not, eqb, List, [], ◌∷◌, length, get_or, sym, refl, ap, ◌∙◌, arith, le-leb}
+use Rattle.std.proofs.Common.{Some, ◌≡◌, ℕ, suc, ◌+◌, ◌-◌, ◌≤◌, Bool, true, false, not, eqb, List, [], ◌∷◌, length, get_or, sym, refl, ap, ◌∙◌, arith, le-leb}
 use mathlib.Core.Bool.{and-true}
 use native.Mathlib.Decide.{ℕ_discrete}
 use Rattle.config.proofs.Tests.{by_case}
@@ -27,7 +26,7 @@ other_than label e = not (eqb label e.label)
 -- by a TTL of 0 every body is expired: of the aged label none stays
 module _ (now label most : ℕ) where
   abbrev pub zero_ttl : StayTest
-  zero_ttl = record { ttl = Some 0; clock = now; all = false; label = label; max_size = most }
+  zero_ttl = record { ttl = Some 0; clock = now; aged = Some label; max_size = most }
 
   zero_stays : (e : Entry) → e.len ≤ most → stays zero_ttl e ≡ other_than label e
   unfolding stays

@@ -25,27 +25,19 @@ pub fn sweep_packing(words: &mut [u64], bytes: &mut [u8], entries: usize, test: 
         len: 0,
     };
     let mut kept: usize = 0;
-    let mut left = entries;
-    let mut from = HEADER_WORDS;
-    let mut to = HEADER_WORDS;
-    while left > 0 {
-        let entry = entry_at(words, from);
+    for i in 0..entries {
+        let entry = entry_at(words, HEADER_WORDS + ENTRY_WORDS * i);
         if stays(test, entry) {
             run = run_up_to(bytes, run, entry.place as usize);
             let place = run.to + run.len;
             let packed = Entry {
-                label: entry.label,
                 place: place as u64,
-                len: entry.len,
-                clock: entry.clock,
+                ..entry
             };
-            put_entry(words, to, packed);
+            put_entry(words, HEADER_WORDS + ENTRY_WORDS * kept, packed);
             run.len += entry.len as usize;
             kept += 1;
-            to += ENTRY_WORDS;
         }
-        left -= 1;
-        from += ENTRY_WORDS;
     }
     let end = move_run(bytes, run);
     // packed from 0 on, they end where their lengths add up to

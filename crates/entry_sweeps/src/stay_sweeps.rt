@@ -8,7 +8,6 @@ ghost use Rattle.table_entries.specs.Sweep.{KeepsOnly};
 ghost use Rattle.entry_sweeps.specs.KeptBy.{kept_by};
 
 use config::{ENTRY_WORDS, HEADER_WORDS};
-use std::num::wrapping_add_u64;
 use table::entry_at;
 use table_entries::{Kept, StayTest, move_entry, stays};
 
@@ -20,19 +19,14 @@ pub fn sweep_staying(words: &mut [u64], entries: usize, test: StayTest) -> Kept
 {
     let mut kept: usize = 0;
     let mut bytes: u64 = 0;
-    let mut left = entries;
-    let mut from = HEADER_WORDS;
-    let mut to = HEADER_WORDS;
-    while left > 0 {
+    for i in 0..entries {
+        let from = HEADER_WORDS + ENTRY_WORDS * i;
         let entry = entry_at(words, from);
         if stays(test, entry) {
-            move_entry(words, from, to);
+            move_entry(words, from, HEADER_WORDS + ENTRY_WORDS * kept);
             kept += 1;
-            bytes = wrapping_add_u64(bytes, entry.len);
-            to += ENTRY_WORDS;
+            bytes = bytes.wrapping_add(entry.len);
         }
-        left -= 1;
-        from += ENTRY_WORDS;
     }
     Kept {
         entries: kept,

@@ -28,8 +28,7 @@ abbrev pub live_test : Option ℕ → ℕ → StayTest
 live_test ttl clock = record {
   ttl = ttl;
   clock = clock;
-  all = true;
-  label = 1024;
+  aged = None;
   max_size = 18446744073709551615;
 }
 

@@ -2,7 +2,6 @@
 ghost use Rattle.std.specs.Prelude.{◌≡◌};
 ghost use Rattle.offer_plan.specs.Plan.{live_test};
 
-use table::LABELS;
 use table_entries::StayTest;
 
 // The test by which bodies that are not expired stay.
@@ -12,8 +11,7 @@ pub fn live_test(ttl: Option<u64>, clock: u64) -> StayTest
     StayTest {
         ttl,
         clock,
-        all: true,
-        label: LABELS as u64,
+        aged: None,
         max_size: u64::MAX,
     }
 }

@@ -1,5 +1,5 @@
 -- A removal: entries are swept, records closed. It is decided before, by a test and by how many bodies are skipped.
-use Rattle.std.specs.Prelude.{Option, None}
+use Rattle.std.specs.Prelude.{Option, Some, None}
 use Rattle.std.specs.Prelude.{◌≡◌, false, List, ℕ, ◌+◌, ◌*◌, ◌≤◌, ◌<◌, length, get_or, set, replicate, take, drop}
 use Rattle.config.specs.Limits.{record_words}
 use Rattle.config.proofs.Lists.{All}
@@ -19,8 +19,7 @@ abbrev pub unexpired : Option ℕ → ℕ → ℕ → StayTest
 unexpired ttl clock label = record {
   ttl = ttl;
   clock = clock;
-  all = false;
-  label = label;
+  aged = Some label;
   max_size = 18446744073709551615;
 }
 

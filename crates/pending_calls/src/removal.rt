@@ -33,8 +33,7 @@ pub fn label_test(ttl: Option<u64>, clock: u64, label: u64) -> StayTest
     StayTest {
         ttl,
         clock,
-        all: false,
-        label,
+        aged: Some(label),
         max_size: u64::MAX,
     }
 }

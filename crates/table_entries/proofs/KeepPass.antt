@@ -25,10 +25,10 @@ pub record KeptSoFar (keep : List Entry → List Entry) (whole : List Entry) (en
   pub head : take entries_at w ≡ take entries_at w₀
   pub tail : drop (entries_at + entry_words * entries) w ≡ drop (entries_at + entry_words * entries) w₀
 
-pub none_kept : (keep : List Entry → List Entry) (entries : ℕ) (w : List ℕ) →
-    KeptSoFar keep (keep (entries_from w entries_at entries)) entries w w 0 0 entries entries_at entries_at
+pub none_kept : (keep : List Entry → List Entry) (entries : ℕ) (w : List ℕ) {left : ℕ} → left ≡ entries →
+    KeptSoFar keep (keep (entries_from w entries_at entries)) entries w w 0 0 left entries_at entries_at
 unfolding entries_from lens_sum
-none_kept keep entries w = record {
+none_kept keep entries w all = rw all record {
   filled = refl;
   reached = refl;
   few = omega arith;
@@ -54,13 +54,14 @@ module _ {keep : List Entry → List Entry} {whole : List Entry} {entries : ℕ}
       }
 
   -- the next entry, by what `keep` makes of it and of any behind it
-  module _ (keep' : List Entry → List Entry) (e : Entry) (more : 0 < left) (is : e ≡ entry_at w from) where
+  module _ (keep' : List Entry → List Entry) (e : Entry) (more : 0 < left) (is : e ≡ entry_at w from)
+      {left' from' : ℕ} (less : left' ≡ left - 1) (at : from' ≡ from + entry_words) where
     abbrev later : List Entry
     later = entries_from w (from + entry_words) (left - 1)
 
     pub entry_left_out : ((es : List Entry) → keep (e ∷ es) ≡ keep' es) →
-        KeptSoFar keep' whole entries w₀ w kept bytes (left - 1) (from + entry_words) to
-    entry_left_out goes = record {
+        KeptSoFar keep' whole entries w₀ w kept bytes left' from' to
+    entry_left_out goes = rw (less, at) record {
       filled = inv.filled;
       reached = omega (arith, inv.reached);
       few = omega (arith, inv.few);
@@ -90,9 +91,9 @@ module _ {keep : List Entry → List Entry} {whole : List Entry} {entries : ℕ}
           ap (entry_at w') at ∙ entry_put w to e (omega (arith, inv)) in
           rw (entries_more w' entries_at kept, before, stored)
 
-      pub entry_kept : (bytes' : ℕ) → bytes' ≡ (bytes + e.len) % 2 ^ 64 →
-          KeptSoFar keep' whole entries w₀ w' (kept + 1) bytes' (left - 1) (from + entry_words) (to + entry_words)
-      entry_kept bytes' adds = record {
+      pub entry_kept : (bytes' : ℕ) {to' : ℕ} → bytes' ≡ (bytes + e.len) % 2 ^ 64 → to' ≡ to + entry_words →
+          KeptSoFar keep' whole entries w₀ w' (kept + 1) bytes' left' from' to'
+      entry_kept bytes' adds up = rw (less, at, up) record {
         filled = omega (arith, inv.filled);
         reached = omega (arith, inv.reached);
         few = omega (arith, inv.few);

@@ -1,4 +1,3 @@
-pub mod StayTests
 pub mod SumsPasses
 pub mod LabelSums
 pub mod Lengths

@@ -54,13 +54,13 @@ pub record PackedSoFar (keep : List Entry → List Entry) (whole : List Entry) (
   pub head : take entries_at w ≡ take entries_at w₀
   pub tail : drop (entries_at + entry_words * entries) w ≡ drop (entries_at + entry_words * entries) w₀
 
-pub none_packed : (keep : List Entry → List Entry) (entries : ℕ) (w b : List ℕ) →
+pub none_packed : (keep : List Entry → List Entry) (entries : ℕ) (w b : List ℕ) {left : ℕ} → left ≡ entries →
     entries_at + entry_words * entries ≤ length w → places_legal 0 (length b) (entries_from w entries_at entries) ≡
     true →
     PackedSoFar keep (keep (entries_from w entries_at entries)) entries w b w b (record { from = 0; to = 0; len = 0 })
-    0 entries entries_at entries_at
+    0 left entries_at entries_at
 unfolding entries_from
-none_packed keep entries w b room legal = record {
+none_packed keep entries w b all room legal = rw all record {
   filled = refl;
   reached = refl;
   within = room;
@@ -118,8 +118,9 @@ module _ {keep : List Entry → List Entry} {whole : List Entry} {entries : ℕ}
 
     -- it goes
     pub entry_passed_over : (keep' : List Entry → List Entry) → ((es : List Entry) → keep (e ∷ es) ≡ keep' es) →
-        PackedSoFar keep' whole entries w₀ b₀ w b run kept (left - 1) (from + entry_words) to
-    entry_passed_over keep' goes = record {
+        {left' from' : ℕ} → left' ≡ left - 1 → from' ≡ from + entry_words →
+        PackedSoFar keep' whole entries w₀ b₀ w b run kept left' from' to
+    entry_passed_over keep' goes less next = rw (less, next) record {
       filled = inv.filled;
       reached = omega (arith, inv.reached);
       within = inv.within;
@@ -184,15 +185,15 @@ module _ {keep : List Entry → List Entry} {whole : List Entry} {entries : ℕ}
             rw (sym (moved_on r.from r.to r.len e.len b' up.down s), up.reaches, up.bytes, up.behind)
             (rw kept_first at inv.rest_bytes)
 
-        pub entry_packed :
+        pub entry_packed : {left' from' to' : ℕ} → left' ≡ left - 1 → from' ≡ from + entry_words →
+            to' ≡ to + entry_words →
             PackedSoFar keep' whole entries w₀ b₀ (put_entry w to (placed_at (r.to + r.len) e)) b'
-            (record { from = r.from; to = r.to; len = r.len + e.len }) (kept + 1) (left - 1) (from + entry_words)
-            (to + entry_words)
+            (record { from = r.from; to = r.to; len = r.len + e.len }) (kept + 1) left' from' to'
         unfolding packed_end
-        entry_packed =
+        entry_packed less next up_to =
             let to_end : r.to + (r.len + e.len) ≡ at + e.len = omega arith in
             let from_end : r.from + (r.len + e.len) ≡ e.place + e.len = omega (arith, up.reaches) in
-            record {
+            rw (less, next, up_to) record {
               filled = omega (arith, inv.filled);
               reached = omega (arith, inv.reached);
               within = inv.within;

@@ -11,12 +11,8 @@ use Rattle.table_entries.specs.Stays.{stays}
 use Rattle.table_entries.specs.Sums.{sum_most, more_at, share, summed}
 
 -- a label that is none has no sum
-pub none_added : (sums : List ℕ) (label n : ℕ) → length sums ≡ 1024 → 1024 ≤ label → sums ≡ more_at sums label n
-none_added sums label n len h = sym (set_out sums label (min (get_or sums label 0 + n) sum_most) (omega arith))
-
-pub some_added : (sums : List ℕ) (label n v : ℕ) → v ≡ min (get_or sums label 0 + n) sum_most →
-    set sums label v ≡ more_at sums label n
-some_added sums label n v is = ap (set sums label) is
+pub none_added : (sums : List ℕ) (label n : ℕ) → length sums ≤ label → sums ≡ more_at sums label n
+none_added sums label n h = sym (set_out sums label (min (get_or sums label 0 + n) sum_most) h)
 
 -- `left` entries are left, from word p on; those passed are in the sums
 pub record SumsPassed (w : List ℕ) (entries : ℕ) (q : StayTest) (bytes : Bool) (sums₀ sums : List ℕ) (left p : ℕ) :
@@ -24,33 +20,31 @@ pub record SumsPassed (w : List ℕ) (entries : ℕ) (q : StayTest) (bytes : Boo
   where
     -- they lie within the words
     pub reached : p + entry_words * left ≡ entries_at + entry_words * entries
-    pub long : length sums ≡ 1024
     -- what is left makes the whole's sums of these
     pub rest : summed q bytes sums (entries_from w p left) ≡ summed q bytes sums₀ (entries_from w entries_at entries)
 
 module _ (w : List ℕ) (entries : ℕ) (q : StayTest) (bytes : Bool) where
-  pub none_summed : (sums : List ℕ) → length sums ≡ 1024 →
-      SumsPassed w entries q bytes sums sums entries entries_at
-  none_summed sums len = record { reached = refl; long = len; rest = refl }
+  pub none_summed : (sums : List ℕ) → SumsPassed w entries q bytes sums sums entries entries_at
+  none_summed sums = record { reached = refl; rest = refl }
 
   module _ {sums₀ sums : List ℕ} {left p : ℕ} (inv : SumsPassed w entries q bytes sums₀ sums left p) where
     pub all_summed : left ≤ 0 → sums ≡ summed q bytes sums₀ (entries_from w entries_at entries)
     unfolding summed
     all_summed h = rw (entries_none w p left h) at inv.rest
 
-    module _ (e : Entry) (v : Bool) (more : 0 < left) (is : e ≡ entry_at w p) (test : v ≡ stays q e) where
+    module _ (e : Entry) (v : Bool) (more : 0 < left) (is : e ≡ entry_at w p) (test : v ≡ stays q e) {left' p' : ℕ}
+        (less : left' ≡ left - 1) (at : p' ≡ p + entry_words) where
       next : summed q bytes (cond (stays q e) (more_at sums e.label (share bytes e)) sums)
           (entries_from w (p + entry_words) (left - 1)) ≡ summed q bytes sums₀ (entries_from w entries_at entries)
       unfolding summed
       next = rw (entries_first w p left more e is) at inv.rest
 
       pub entry_summed : v ≡ true → (n : ℕ) (sums' : List ℕ) → n ≡ share bytes e → sums' ≡ more_at sums e.label n →
-          SumsPassed w entries q bytes sums₀ sums' (left - 1) (p + entry_words)
-      entry_summed h n sums' adds after = record {
+          SumsPassed w entries q bytes sums₀ sums' left' p'
+      entry_summed h n sums' adds after = rw (less, at) record {
         reached = omega (arith, inv.reached);
-        long = ap length after ∙ length-set sums e.label _ ∙ inv.long;
         rest = rw (after, adds) (rw (← test, h) at next);
       }
 
-      pub entry_passed : v ≡ false → SumsPassed w entries q bytes sums₀ sums (left - 1) (p + entry_words)
-      entry_passed h = record { reached = omega (arith, inv.reached); long = inv.long; rest = rw (← test, h) at next }
+      pub entry_passed : v ≡ false → SumsPassed w entries q bytes sums₀ sums left' p'
+      entry_passed h = rw (less, at) record { reached = omega (arith, inv.reached); rest = rw (← test, h) at next }

@@ -18,16 +18,11 @@ module _ (skip : List ℕ) (label : ℕ) where
   pub none_of_label : get_or skip label 0 ≡ 0 → Spends label skip skip false
   none_of_label z = record { test = rw z; after = sym (less_of_none z) }
 
-  pub no_label : length skip ≡ 1024 → 1024 ≤ label → Spends label skip skip false
-  no_label len h = none_of_label (get_or-eq_default skip 0 (omega arith))
+  pub no_label : length skip ≤ label → Spends label skip skip false
+  no_label h = none_of_label (get_or-eq_default skip 0 h)
 
   pub one_of_label : (get_or skip label 0 ≡ 0 → ⊥) → Spends label skip (less_at skip label) true
   one_of_label some = record { test = sym (lt-ltb 0 (get_or skip label 0) (omega arith)); after = refl }
-
--- what is to be skipped has a number for each label, still
-pub length_spent : {label : ℕ} {skip skip' : List ℕ} {u : Bool} → Spends label skip skip' u → length skip ≡ 1024 →
-    length skip' ≡ 1024
-length_spent {label} {skip} spent long = ap length spent.after ∙ length-set skip label _ ∙ long
 
 module _ (q : StayTest) where
   pub none_swept : (skip : List ℕ) → swept q skip [] ≡ []

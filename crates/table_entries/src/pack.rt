@@ -71,15 +71,12 @@ pub fn pack_bodies(words: &mut [u64], bytes: &mut [u8], entries: usize) -> usize
         to: 0,
         len: 0,
     };
-    let mut left = entries;
-    let mut p = HEADER_WORDS;
-    while left > 0 {
+    for i in 0..entries {
+        let p = HEADER_WORDS + ENTRY_WORDS * i;
         let entry = entry_at(words, p);
         run = run_up_to(bytes, run, entry.place as usize);
         words[p + PLACE] = (run.to + run.len) as u64;
         run.len += entry.len as usize;
-        left -= 1;
-        p += ENTRY_WORDS;
     }
     move_run(bytes, run)
 }

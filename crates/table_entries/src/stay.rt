@@ -7,17 +7,10 @@ use config::is_expired;
 use table::Entry;
 
 // Whether an entry stays by itself.
+#[tactic(auto, unfolding(crate::specs::Stays::stays))]
 pub fn stays(test: StayTest, entry: Entry) -> bool
     ensures { result ≡ stays test entry }
 {
-    if test.max_size < entry.len {
-        return false;
-    }
-    if !test.all {
-        if test.label != entry.label {
-            return true;
-        }
-    }
-    let ttl = test.ttl;
-    !is_expired(ttl, test.clock, entry.clock)
+    let ages = test.aged.is_none_or(|label| label == entry.label);
+    entry.len <= test.max_size && !(ages && is_expired(test.ttl, test.clock, entry.clock))
 }

@@ -14,24 +14,18 @@ use table::{Entry, LABELS, entry_at};
 fn capped_sum(sum: u32, n: u64) -> u32
     ensures { result ≡ min (sum + n) sum_most }
 {
-    let room = 4294967295 - sum;
-    if (room as u64) < n {
-        return 4294967295;
-    }
-    sum + (n as u32)
+    u32::try_from(u64::from(sum).saturating_add(n)).unwrap_or(u32::MAX)
 }
 
-// Adds n to a label's sum. A label that is none has no sum. (Behind a reference the type does not tell an array's
-// length to a proof, so the callers say it.)
+// Adds n to a label's sum. A label that is none has no sum.
+#[tactic(auto, using(crate::proofs::SumsPasses::none_added))]
 fn add_at(sums: &mut [u32; LABELS], label: u64, n: u64)
-    requires { length sums.old ≡ 1024 }
     ensures { sums.new ≡ more_at sums.old label n }
 {
-    if (LABELS as u64) <= label {
-        return;
-    }
     let at = label as usize;
-    sums[at] = capped_sum(sums[at], n);
+    if at < sums.len() {
+        sums[at] = capped_sum(sums[at], n);
+    }
 }
 
 // What an entry adds: its length, or one.
@@ -42,6 +36,7 @@ fn share_of(entry: Entry, bytes: bool) -> u64
 }
 
 // Adds to each label's sum the lengths, or the number, of its entries that stay by themselves.
+#[tactic(auto, using(crate::proofs::SumsPasses::none_summed, crate::proofs::SumsPasses::entry_summed, crate::proofs::SumsPasses::entry_passed, crate::proofs::SumsPasses::all_summed))]
 pub fn sums_by_label(
     words: &[u64],
     entries: usize,
@@ -53,14 +48,10 @@ pub fn sums_by_label(
     ensures { sums.new ≡ summed test bytes sums.old (entries_from words.now entries_at
         entries) }
 {
-    let mut left = entries;
-    let mut p = HEADER_WORDS;
-    while left > 0 {
-        let entry = entry_at(words, p);
+    for i in 0..entries {
+        let entry = entry_at(words, HEADER_WORDS + ENTRY_WORDS * i);
         if stays(test, entry) {
             add_at(sums, entry.label, share_of(entry, bytes));
         }
-        left -= 1;
-        p += ENTRY_WORDS;
     }
 }

@@ -9,7 +9,6 @@ use super::StayTest;
 use super::stay::stays;
 use areas::move_four;
 use config::{ENTRY_WORDS, HEADER_WORDS};
-use std::num::wrapping_add_u64;
 use table::{Entry, LABELS, entry_at};
 
 // What a sweep keeps: how many entries, and their lengths together.
@@ -20,19 +19,15 @@ pub struct Kept {
 }
 
 // Takes one off what is to be skipped of a label; whether there was one. Of a label that is none there is none.
+#[tactic(auto, using(crate::proofs::SweepPass::none_of_label, crate::proofs::SweepPass::no_label, crate::proofs::SweepPass::one_of_label))]
 fn spend(skip: &mut [u32; LABELS], label: u64) -> bool
-    requires { length skip.old ≡ 1024 }
     ensures { Spends label skip.old skip.new result }
 {
-    if (LABELS as u64) <= label {
-        return false;
-    }
     let at = label as usize;
-    let due = skip[at];
-    if due == 0 {
+    if at >= skip.len() || skip[at] == 0 {
         return false;
     }
-    skip[at] = due - 1;
+    skip[at] -= 1;
     true
 }
 
@@ -63,21 +58,13 @@ pub fn sweep(words: &mut [u64], entries: usize, test: StayTest, skip: &mut [u32;
 {
     let mut kept: usize = 0;
     let mut bytes: u64 = 0;
-    let mut left = entries;
-    let mut from = HEADER_WORDS;
-    let mut to = HEADER_WORDS;
-    while left > 0 {
-        let entry = entry_at(words, from);
-        if stays(test, entry) {
-            if !spend(skip, entry.label) {
-                put_entry(words, to, entry);
-                kept += 1;
-                bytes = wrapping_add_u64(bytes, entry.len);
-                to += ENTRY_WORDS;
-            }
+    for i in 0..entries {
+        let entry = entry_at(words, HEADER_WORDS + ENTRY_WORDS * i);
+        if stays(test, entry) && !spend(skip, entry.label) {
+            put_entry(words, HEADER_WORDS + ENTRY_WORDS * kept, entry);
+            kept += 1;
+            bytes = bytes.wrapping_add(entry.len);
         }
-        left -= 1;
-        from += ENTRY_WORDS;
     }
     Kept {
         entries: kept,

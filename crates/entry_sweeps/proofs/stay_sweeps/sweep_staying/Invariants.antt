@@ -1,3 +1,5 @@
+use Prim.Native.Nat.{◌+◌, ◌-◌, ◌*◌}
+use Rattle.config.specs.Limits.{entry_words}
 use Rattle.table.specs.Layout.{entries_at}
 use Rattle.table.specs.Table.{entries_from}
 use Rattle.table_entries.specs.Stays.{stays}
@@ -5,10 +7,8 @@ use Rattle.table_entries.proofs.KeepPass.{KeptSoFar}
 use Rattle.entry_sweeps.specs.KeptBy.{kept_by}
 use Rattle.entry_sweeps.proofs.stay_sweeps.sweep_staying.Given as goal
 
-abbrev pub invariant-loop-left : goal.invariant-loop-left
-invariant-loop-left l = KeptSoFar (kept_by (stays l.test)) (kept_by (stays l.test)
+abbrev pub invariant-loop-i : goal.invariant-loop-i
+invariant-loop-i l = KeptSoFar (kept_by (stays l.test)) (kept_by (stays l.test)
     (entries_from l.initial.words entries_at l.entries)) l.entries l.initial.words l.words
-    l.kept l.bytes l.left l.from l.to
-
-abbrev pub decreases-loop-left : goal.decreases-loop-left
-decreases-loop-left l = l.left
+    l.kept l.bytes (l.entries - l.i) (entries_at + entry_words * l.i)
+    (entries_at + entry_words * l.kept)
