@@ -27,39 +27,30 @@ fn close_records(
         positions.new result }
 {
     let mut remain: usize = 0;
-    let mut passed: usize = 0;
-    let mut left = records;
-    let mut p = from;
-    while left > 0 {
-        let template = record_at(words, p);
+    for i in 0..records {
+        let template = record_at(words, from + RECORD_WORDS * i);
         let count = sum_of(kept, template.label);
         if 0 < count {
             let recounted = TemplateRecord {
-                key: template.key,
-                label: template.label,
                 count: count as u64,
+                ..template
             };
             put_record(words, from + RECORD_WORDS * remain, recounted);
-            positions[passed] = remain as u32;
+            positions[i] = remain as u32;
             remain += 1;
         } else {
-            positions[passed] = NOWHERE;
+            positions[i] = NOWHERE;
         }
-        passed += 1;
-        left -= 1;
-        p += RECORD_WORDS;
     }
     remain
 }
 
 // The new position of a record.
+#[tactic(auto, using(table_records::proofs::PastEnd::past_end))]
 fn position_of(positions: &[u32], position: u64) -> u32
     ensures { result ≡ get_or positions.now position nowhere }
 {
-    if (positions.len() as u64) <= position {
-        return NOWHERE;
-    }
-    positions[position as usize]
+    positions.get(position as usize).copied().unwrap_or(NOWHERE)
 }
 
 // Moves the index words of the records that remain together, by the new positions.
@@ -68,16 +59,12 @@ fn close_index(words: &mut [u64], from: usize, records: usize, positions: &[u32]
     ensures { ClosesIndex from records positions.now words.old words.new }
 {
     let mut remain: usize = 0;
-    let mut keys_left = records;
-    let mut p = from;
-    while keys_left > 0 {
-        let position = position_of(positions, words[p + INDEX]);
+    for k in 0..records {
+        let position = position_of(positions, words[from + RECORD_WORDS * k + INDEX]);
         if position < NOWHERE {
             words[from + RECORD_WORDS * remain + INDEX] = position as u64;
             remain += 1;
         }
-        keys_left -= 1;
-        p += RECORD_WORDS;
     }
 }
 

@@ -27,17 +27,15 @@ fn open_index(words: &mut [u64], from: usize, records: usize, key: u64) -> usize
     requires records_value { index_rises (records_from words.old from records) 0 (index_from words.old from records) ≡ true }
     ensures { OpensIndex from records key words.old words.new result }
 {
-    let mut free = records;
-    while free > 0 {
-        let p = from + RECORD_WORDS * (free - 1);
+    for k in (0..records).rev() {
+        let p = from + RECORD_WORDS * k;
         let position = words[p + INDEX];
         if key_at(words, from, records, position) <= key {
-            return free;
+            return k + 1;
         }
         words[p + RECORD_WORDS + INDEX] = position;
-        free -= 1;
     }
-    free
+    0
 }
 
 // Adds a record behind those from word `from` on, and its position to the index.

@@ -15,23 +15,18 @@ use table_records::{capped_count, put_record};
 const NOWHERE: u64 = 1024;
 
 // The place of the first record with this label; where none has it, the number of records.
+#[tactic(auto, using(table_records::proofs::Places::none_passed, table_records::proofs::Places::no_place, table_records::proofs::Places::place_found, table_records::proofs::Places::place_further))]
 pub fn place_of(words: &[u64], from: usize, records: usize, label: u64) -> usize
     requires { from + record_words * records ≤ length words.now }
     ensures { result ≡ place_of label (records_from words.now from records) }
 {
-    let mut place: usize = 0;
-    let mut left = records;
-    let mut p = from;
-    while left > 0 {
-        let template = record_at(words, p);
+    for i in 0..records {
+        let template = record_at(words, from + RECORD_WORDS * i);
         if label == template.label {
-            return place;
+            return i;
         }
-        place += 1;
-        left -= 1;
-        p += RECORD_WORDS;
     }
-    place
+    records
 }
 
 // Moves the records behind a place up by one; index words stay.
@@ -39,14 +34,10 @@ fn move_up(words: &mut [u64], from: usize, records: usize, at: usize)
     requires { (from + record_words * records ≤ length words.old) × (at < records) }
     ensures { MovesUp from records at words.old words.new }
 {
-    let mut remain = at;
-    let mut left = records - at - 1;
-    while left > 0 {
-        let p = from + RECORD_WORDS * remain;
+    for i in at..records - 1 {
+        let p = from + RECORD_WORDS * i;
         let template = record_at(words, p + RECORD_WORDS);
         put_record(words, p, template);
-        remain += 1;
-        left -= 1;
     }
 }
 
@@ -73,16 +64,12 @@ fn lower_index(words: &mut [u64], from: usize, records: usize, at: usize)
     ensures { ClosesIndex from records (positions_but 0 at records) words.old words.new }
 {
     let mut remain: usize = 0;
-    let mut keys_left = records;
-    let mut p = from;
-    while keys_left > 0 {
-        let position = position_but(at, records, words[p + INDEX]);
+    for k in 0..records {
+        let position = position_but(at, records, words[from + RECORD_WORDS * k + INDEX]);
         if position < NOWHERE {
             words[from + RECORD_WORDS * remain + INDEX] = position;
             remain += 1;
         }
-        keys_left -= 1;
-        p += RECORD_WORDS;
     }
 }
 

@@ -26,9 +26,10 @@ pub record Remapping (from records : ℕ) (ps w₀ w : List ℕ) (remain left p 
   pub head : take from w ≡ take from w₀
   pub tail : drop (from + record_words * records) w ≡ drop (from + record_words * records) w₀
 
-pub none_remapped : (from records : ℕ) (ps w : List ℕ) → Remapping from records ps w w 0 records from
+pub none_remapped : (from records : ℕ) (ps w : List ℕ) {left p : ℕ} → left ≡ records → p ≡ from →
+    Remapping from records ps w w 0 left p
 unfolding index_from
-none_remapped from records ps w = record {
+none_remapped from records ps w all at = rw (all, at) record {
   reached = refl;
   few = omega arith;
   same_length = refl;
@@ -54,13 +55,14 @@ module _ {from records : ℕ} {ps w₀ w : List ℕ} {remain left p : ℕ}
         tail = inv.tail;
       }
 
-  module _ (i : ℕ) (more : 0 < left) (is : i ≡ get_or ps (word w (p + 3)) nowhere) where
+  module _ (i : ℕ) (more : 0 < left) (is : i ≡ get_or ps (word w (p + 3)) nowhere) {left' p' : ℕ}
+      (less : left' ≡ left - 1) (next : p' ≡ p + record_words) where
     abbrev rest : List ℕ
     rest = index_from w (p + record_words) (left - 1)
 
-    pub index_dropped : nowhere ≤ i → Remapping from records ps w₀ w remain (left - 1) (p + record_words)
+    pub index_dropped : nowhere ≤ i → Remapping from records ps w₀ w remain left' p'
     unfolding remapped
-    index_dropped h = record {
+    index_dropped h = rw (less, next) record {
       reached = omega (arith, inv.reached);
       few = omega (arith, inv.few);
       same_length = inv.same_length;
@@ -95,8 +97,8 @@ module _ {from records : ℕ} {ps w₀ w : List ℕ} {remain left p : ℕ}
           (λ j k u v. word_other w q k i (λ z. omega (arith, inv.few, inv.reached))) in
           rw (index_one_more w' from remain, before, here, after, append_assoc, ← e) inv.kept_index
 
-      pub index_moved : Remapping from records ps w₀ w' (remain + 1) (left - 1) (p + record_words)
-      index_moved = record {
+      pub index_moved : Remapping from records ps w₀ w' (remain + 1) left' p'
+      index_moved = rw (less, next) record {
         reached = omega (arith, inv.reached);
         few = omega (arith, inv.few);
         same_length = length-set w q i ∙ inv.same_length;

@@ -61,10 +61,10 @@ pub record Closing (from records : ℕ) (kept w₀ ps₀ w ps : List ℕ) (remai
   pub head : take from w ≡ take from w₀
   pub tail : drop (from + record_words * records) w ≡ drop (from + record_words * records) w₀
 
-pub none_closed : (from records : ℕ) (kept w ps : List ℕ) → records ≤ length ps →
-    Closing from records kept w ps w ps 0 0 records from
+pub none_closed : (from records : ℕ) (kept w ps : List ℕ) {left p : ℕ} → records ≤ length ps → left ≡ records →
+    p ≡ from → Closing from records kept w ps w ps 0 0 left p
 unfolding records_from
-none_closed from records kept w ps h = record {
+none_closed from records kept w ps h all at = rw (all, at) record {
   reached = refl;
   counted = omega arith;
   few = omega arith;
@@ -94,6 +94,7 @@ module _ {from records : ℕ} {kept w₀ ps₀ w ps : List ℕ} {remain passed l
       }
 
   module _ (r : TemplateRecord) (n : ℕ) (more : 0 < left) (is : r ≡ record_at w p) (count : n ≡ get_or kept r.label 0)
+      {left' p' : ℕ} (less : left' ≡ left - 1) (next : p' ≡ p + record_words)
     where
       abbrev rest : List TemplateRecord
       rest = records_from w (p + record_words) (left - 1)
@@ -109,8 +110,8 @@ module _ {from records : ℕ} {kept w₀ ps₀ w ps : List ℕ} {remain passed l
           )
 
       pub record_closed : n ≤ 0 →
-          Closing from records kept w₀ ps₀ w (set ps passed nowhere) remain (passed + 1) (left - 1) (p + record_words)
-      record_closed z = record {
+          Closing from records kept w₀ ps₀ w (set ps passed nowhere) remain (passed + 1) left' p'
+      record_closed z = rw (less, next) record {
         reached = omega (arith, inv.reached);
         counted = omega (arith, inv.counted);
         few = omega (arith, inv.few);
@@ -158,9 +159,8 @@ module _ {from records : ℕ} {kept w₀ ps₀ w ps : List ℕ} {remain passed l
             rw (records_one_more w' from remain, before, here, same_rest, append_assoc, ← e)
             inv.kept_records
 
-        pub record_moved : Closing from records kept w₀ ps₀ w' (set ps passed remain) (remain + 1) (passed + 1)
-            (left - 1) (p + record_words)
-        record_moved = record {
+        pub record_moved : Closing from records kept w₀ ps₀ w' (set ps passed remain) (remain + 1) (passed + 1) left' p'
+        record_moved = rw (less, next) record {
           reached = omega (arith, inv.reached);
           counted = omega (arith, inv.counted);
           few = omega (arith, inv.few);

@@ -1,14 +1,19 @@
 -- A label that no record has: there is one while the records are fewer than the labels. Assumes nothing.
 use mathlib.Core.Path.{◌≡◌, refl, sym, ap, ◌∙◌}
 use mathlib.Core.Logic.{◌≢◌}
-use mathlib.Core.Bool.{Bool, true, false, ◌||◌, cond, false≢true}
+use mathlib.Core.Bool.{Bool, true, false, not, ◌||◌, cond, false≢true}
 use mathlib.Core.List.{List, [], ◌∷◌}
 use Prim.Native.Nat.{ℕ, zero, suc, ◌+◌, ◌≤◌, ◌<◌}
 use native.Mathlib.Omega.{arith}
 use native.Mathlib.Decide.{ℕ_discrete}
-use lib.Dec.{eqb}
-use lib.ListN.{length, get_or, replicate, length-replicate, get_or-replicate}
-use borrow.Author.Tests.{eqb-true, eqb-false}
+use lib.Dec.{eqb, ltb}
+use Rattle.std.specs.Prelude.{unwrap_or, Some, None}
+use Rattle.std.proofs.lemmas.List.Sums.{prefix_len-le-length}
+use Rattle.std.specs.List.{position, position_or_len}
+use native.Mathlib.Numerals.{add-one}
+use lib.Seq.{drop-cons}
+use lib.ListN.{length, get_or, drop, drop_of_length-le, replicate, length-replicate, get_or-replicate}
+use borrow.Author.Tests.{eqb-true, eqb-false, ltb-false}
 use Rattle.table.specs.declared.TemplateRecord.{TemplateRecord}
 use Rattle.table.specs.Table.{records_from, has_label}
 use Rattle.table.proofs.Words.{length_records}
@@ -52,6 +57,41 @@ labels_few (suc n) rs h =
       labels_few n (without n rs) (λ j a. has_without j n rs (λ e. omega arith) (h j (omega arith))),
       length_without n rs (h n (omega arith)),
     )
+
+-- the first place where a test passes, or the length
+place_or_length : (p : ℕ → Bool) (xs : List ℕ) → unwrap_or (position p xs) (length xs) ≡ position_or_len p xs
+place_or_length p xs = by_place (ltb (position_or_len p xs) (length xs)) refl
+  where
+    by_place : (t : Bool) → ltb (position_or_len p xs) (length xs) ≡ t →
+        unwrap_or (cond t (Some (position_or_len p xs)) None) (length xs) ≡ position_or_len p xs
+    by_place true e = refl
+    by_place false e =
+        let h = ltb-false (position_or_len p xs) (length xs) e in
+        let most = prefix_len-le-length (λ x. not (p x)) xs in
+        omega arith
+
+-- the least free label is the place of the first 0
+free_from : (used : List ℕ) (k n : ℕ) → k + n ≡ length used →
+    least_free used k n ≡ k + position_or_len (λ sum. eqb sum 0) (drop k used)
+unfolding least_free
+free_from used k zero all =
+    let none : drop k used ≡ [] = drop_of_length-le used (omega arith) in
+    rw none (omega arith)
+free_from used k (suc n) all =
+    let next = free_from used (k + 1) n (omega arith) in
+    let cons : drop k used ≡ get_or used k 0 ∷ drop (k + 1) used = drop-cons used k 0 (omega arith) ∙ rw (add-one k) in
+    rw cons (by_sum (eqb (get_or used k 0) 0) next)
+  where
+    by_sum : (t : Bool) → least_free used (k + 1) n ≡ k + 1 + position_or_len (λ sum. eqb sum 0) (drop (k + 1) used) →
+        cond t k (least_free used (k + 1) n)
+        ≡ k + cond (not t) (1 + position_or_len (λ sum. eqb sum 0) (drop (k + 1) used)) 0
+    by_sum true e = omega arith
+    by_sum false e = e ∙ omega arith
+
+pub free_position : (used : List ℕ) →
+    unwrap_or (position (λ sum. eqb sum 0) used) (length used) ≡ least_free used 0 (length used)
+free_position used =
+    place_or_length (λ sum. eqb sum 0) used ∙ sym (free_from used 0 (length used) (omega arith) ∙ omega arith)
 
 module _ (kept : List ℕ) (rs : List TemplateRecord) where
   seek_free : (k n : ℕ) → length rs < k + n → ((j : ℕ) → j < k → has_label j rs ≡ true) →

@@ -1,8 +1,8 @@
 -- The greatest label of the records, and that the next one is free. Assumes nothing.
-use mathlib.Core.Path.{◌≡◌, refl, sym, ◌∙◌}
+use mathlib.Core.Path.{◌≡◌, refl, sym, ap, ◌∙◌}
 use mathlib.Core.Bool.{Bool, true, false, cond}
 use mathlib.Core.List.{List, [], ◌∷◌}
-use Prim.Native.Nat.{ℕ, ◌+◌, ◌*◌, ◌-◌, ◌≤◌, ◌<◌}
+use Prim.Native.Nat.{ℕ, max, ◌+◌, ◌*◌, ◌-◌, ◌≤◌, ◌<◌}
 use native.Mathlib.Omega.{arith}
 use lib.Dec.{ltb}
 use lib.ListN.{length}
@@ -10,38 +10,36 @@ use borrow.Author.Tests.{ltb-true, ltb-false, lt-ltb, le-ltb, ne_eqb}
 use Rattle.config.specs.Limits.{record_words}
 use Rattle.table.specs.declared.TemplateRecord.{TemplateRecord}
 use Rattle.table.specs.Table.{record_at, records_from, has_label}
-use Rattle.table.proofs.Words.{records_first, records_none, length_records}
+use Rattle.table.proofs.Words.{length_records}
+use Rattle.table_records.proofs.Chosen.{rest, rest_all, rest_none, rest_first}
 use Rattle.table_records.specs.Choose.{greater_of, greatest_label, last_label, FreeLabel}
 
 -- the greatest label passed, and then those of the records that are left
-pub record GreatestPassed (w : List ℕ) (from records greatest p left : ℕ) : Type 0 where
-  pub within : p + record_words * left ≤ length w
-  pub rest : greatest_label 0 (records_from w from records) ≡ greatest_label greatest (records_from w p left)
+pub record GreatestPassed (w : List ℕ) (p n greatest i : ℕ) : Type 0 where
+  pub rest_passed : greatest_label 0 (records_from w p n) ≡ greatest_label greatest (rest w p n i)
 
-pub no_label_passed : (w : List ℕ) (from records : ℕ) → from + record_words * records ≤ length w →
-    GreatestPassed w from records 0 from records
-no_label_passed w from records h = record { within = h; rest = refl }
-
-module _ {w : List ℕ} {from records greatest p left : ℕ} (inv : GreatestPassed w from records greatest p left) where
-  pub label_passed : (r : TemplateRecord) (k : ℕ) → 0 < left → r ≡ record_at w p → k ≡ greater_of greatest r.label →
-      GreatestPassed w from records k (p + record_words) (left - 1)
-  unfolding greatest_label
-  label_passed r k more is next = record {
-    within = omega (arith, inv.within);
-    rest = inv.rest ∙ rw (records_first w p left more r is, next);
-  }
-
-  pub all_labels_passed : left ≤ 0 → greatest ≡ greatest_label 0 (records_from w from records)
-  unfolding greatest_label
-  all_labels_passed h = sym (inv.rest ∙ rw (records_none w p left h))
+pub no_label_passed : (w : List ℕ) (p n : ℕ) → GreatestPassed w p n 0 0
+no_label_passed w p n = record { rest_passed = ap (greatest_label 0) (sym (rest_all w p n)) }
 
 -- the greater of two numbers
-module _ (a b : ℕ) where
-  pub second_greater : a < b → b ≡ greater_of a b
-  second_greater h = rw (lt-ltb a b h)
+greater_max : (a b : ℕ) → max a b ≡ greater_of a b
+greater_max a b = by_test (ltb a b) refl
+  where
+    by_test : (t : Bool) → ltb a b ≡ t → max a b ≡ cond t b a
+    by_test true e = let h = ltb-true a b e in omega arith
+    by_test false e = let h = ltb-false a b e in omega arith
 
-  pub first_greater : b ≤ a → a ≡ greater_of a b
-  first_greater h = rw (le-ltb a b h)
+module _ {w : List ℕ} {p n greatest i : ℕ} (inv : GreatestPassed w p n greatest i) where
+  pub label_passed : (r : TemplateRecord) (k : ℕ) → i < n → r ≡ record_at w (p + record_words * i) →
+      k ≡ max greatest r.label → GreatestPassed w p n k (i + 1)
+  unfolding greatest_label
+  label_passed r k more is next = record {
+    rest_passed = inv.rest_passed ∙ rw (rest_first w p n i r more is, next, greater_max greatest r.label);
+  }
+
+  pub all_labels_passed : n ≤ i → greatest ≡ greatest_label 0 (records_from w p n)
+  unfolding greatest_label
+  all_labels_passed h = sym (inv.rest_passed ∙ rw (rest_none w p n i h))
 
 greater_most : (a b : ℕ) → (a ≤ greater_of a b) × (b ≤ greater_of a b)
 greater_most a b = by_test (ltb a b) refl

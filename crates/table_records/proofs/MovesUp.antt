@@ -31,17 +31,15 @@ pub record MovingUp (from records at : ℕ) (w₀ w : List ℕ) (remain left : �
   pub tail : drop (from + record_words * records) w ≡ drop (from + record_words * records) w₀
 
 pub none_moved : (from records at : ℕ) (w : List ℕ) → at < records →
-    MovingUp from records at w w at (records - at - 1)
-none_moved from records at w h =
-    let z : records - at - 1 ≡ records - 1 - at = omega arith in
-    record {
-      counted = omega arith;
-      same_length = refl;
-      moved = rw z;
-      same = λ i. refl;
-      head = refl;
-      tail = refl;
-    }
+    MovingUp from records at w w at (records - 1 - at)
+none_moved from records at w h = record {
+  counted = omega arith;
+  same_length = refl;
+  moved = refl;
+  same = λ i. refl;
+  head = refl;
+  tail = refl;
+}
 
 module _ {from records at : ℕ} {w₀ w : List ℕ} {remain left : ℕ} (inv : MovingUp from records at w₀ w remain left)
   where
@@ -99,5 +97,6 @@ module _ {from records at : ℕ} {w₀ w : List ℕ} {remain left : ℕ} (inv : 
         tail = drop_put w q r (from + record_words * records) (omega (arith, inv.counted)) ∙ inv.tail;
       }
 
-      pub one_moved_lem : (w'' : List ℕ) → w'' ≡ w' → MovingUp from records at w₀ w'' (remain + 1) (left - 1)
-      one_moved_lem w'' stored = rw stored next
+      pub one_moved_lem : (w'' : List ℕ) {left' : ℕ} → w'' ≡ w' → left' ≡ left - 1 →
+          MovingUp from records at w₀ w'' (remain + 1) left'
+      one_moved_lem w'' stored less = rw (stored, less) next

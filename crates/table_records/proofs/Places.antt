@@ -12,49 +12,39 @@ use Rattle.config.specs.Limits.{record_words}
 use Rattle.config.proofs.Lists.{All}
 use Rattle.table.specs.declared.TemplateRecord.{TemplateRecord}
 use Rattle.table.specs.Table.{record_at, records_from}
-use Rattle.table.proofs.Words.{records_none, records_first}
 use Rattle.table_records.specs.Close.{nowhere}
+use Rattle.table_records.proofs.Chosen.{rest, rest_all, rest_none, rest_first}
 use Rattle.table_records.specs.Take.{place_of, without_at, count_up, positions_but}
 
 -- ---- looking for the label
 
--- none of the records passed has it; `left` records are left, from word p on
-pub record PlaceSought (w : List ℕ) (label from records place p left : ℕ) : Type 0 where
-  pub within : p + record_words * left ≤ length w
-  pub passed : place + left ≡ records
-  pub rest : place_of label (records_from w from records) ≡ place + place_of label (records_from w p left)
+-- none of the first i records has it
+pub record PlaceSought (w : List ℕ) (label p n i : ℕ) : Type 0 where
+  pub rest_sought : place_of label (records_from w p n) ≡ i + place_of label (rest w p n i)
 
-pub none_passed : (w : List ℕ) (label from records : ℕ) → from + record_words * records ≤ length w →
-    PlaceSought w label from records 0 from records
-none_passed w label from records h = record { within = h; passed = omega arith; rest = omega arith }
+pub none_passed : (w : List ℕ) (label p n : ℕ) → PlaceSought w label p n 0
+none_passed w label p n = record { rest_sought = rw (rest_all w p n) (omega arith) }
 
-module _ {w : List ℕ} {label from records place p left : ℕ} (inv : PlaceSought w label from records place p left) where
-  pub no_place : left ≤ 0 → place ≡ place_of label (records_from w from records)
+module _ {w : List ℕ} {label p n i : ℕ} (inv : PlaceSought w label p n i) where
+  pub no_place : n ≤ i → i ≤ n → n ≡ place_of label (records_from w p n)
   unfolding place_of
-  no_place h =
-      let z : place_of label (records_from w p left) ≡ 0 = rw (records_none w p left h) in
-      omega (arith, inv.rest)
+  no_place h few =
+      let z : place_of label (rest w p n i) ≡ 0 = rw (rest_none w p n i h) in
+      omega (arith, inv.rest_sought)
 
-  module _ (r : TemplateRecord) (more : 0 < left) (is : r ≡ record_at w p) where
-    pub place_found : label ≡ r.label → place ≡ place_of label (records_from w from records)
+  module _ (r : TemplateRecord) (more : i < n) (is : r ≡ record_at w (p + record_words * i)) where
+    pub place_found : label ≡ r.label → i ≡ place_of label (records_from w p n)
     unfolding place_of
     place_found e =
-        let z : place_of label (records_from w p left) ≡ 0 =
-        rw (records_first w p left more r is, eq-eqb label r.label e) in
-        omega (arith, inv.rest)
+        let z : place_of label (rest w p n i) ≡ 0 = rw (rest_first w p n i r more is, eq-eqb label r.label e) in
+        omega (arith, inv.rest_sought)
 
-    pub place_further : (label ≡ r.label → ⊥) →
-        PlaceSought w label from records (place + 1) (p + record_words) (left - 1)
+    pub place_further : (label ≡ r.label → ⊥) → PlaceSought w label p n (i + 1)
     unfolding place_of
     place_further d =
-        let next : place_of label (records_from w p left)
-        ≡ suc (place_of label (records_from w (p + record_words) (left - 1))) =
-        rw (records_first w p left more r is, ne_eqb label r.label d) in
-        record {
-          within = omega (arith, inv.within);
-          passed = omega (arith, inv.passed);
-          rest = omega (arith, inv.rest);
-        }
+        let next : place_of label (rest w p n i) ≡ suc (place_of label (rest w p n (i + 1))) =
+        rw (rest_first w p n i r more is, ne_eqb label r.label d) in
+        record { rest_sought = omega (arith, inv.rest_sought) }
 
 -- what is known of each record is known of the one at its place, which has the label
 pub place_has : (P : TemplateRecord → Type 0) (label : ℕ) (w : List ℕ) (p k : ℕ) → All P (records_from w p k) →

@@ -3,10 +3,10 @@ ghost use Rattle.std.specs.Prelude.{◌≡◌, ◌+◌, ◌*◌, ◌-◌, ◌≤
 ghost use Rattle.config.specs.Limits.{record_words};
 ghost use Rattle.table.specs.Table.{records_from};
 ghost use Rattle.table_records.specs.Choose.{skipping, skipping_over, evictions_of, live_records, first_live};
-ghost use Rattle.table_records.specs.Choose.{least_free, greater_of, greatest_label, last_label, RoomForLabels};
+ghost use Rattle.table_records.specs.Choose.{least_free, greatest_label, last_label, RoomForLabels};
 ghost use Rattle.table_records.specs.Choose.{FreeLabel};
 
-use super::sums::{nth_sum, set_nth, set_sum, sum_of};
+use super::sums::{set_sum, sum_of};
 use config::RECORD_WORDS;
 use table::{FEW_LABELS, LABELS, record_at};
 
@@ -18,36 +18,19 @@ const LAST_LABEL: u64 = 1023;
 const LAST_OF_FEW: u64 = 31;
 
 // Has all bodies of the records skipped; a label past the end of the slice is left out.
-fn skip_labels(words: &[u64], from: usize, records: usize, skip: &mut [u32])
+#[tactic(auto, using(crate::proofs::Chosen::none_set, crate::proofs::Chosen::record_set, crate::proofs::Chosen::all_set))]
+pub fn skip_records(words: &[u64], from: usize, records: usize, skip: &mut [u32])
     requires { from + record_words * records ≤ length words.now }
     ensures { skip.new ≡ skipping skip.old (records_from words.now from records) }
 {
-    let mut left = records;
-    let mut p = from;
-    while left > 0 {
-        let template = record_at(words, p);
-        set_nth(skip, template.label, SKIP_ALL);
-        left -= 1;
-        p += RECORD_WORDS;
+    for i in 0..records {
+        let template = record_at(words, from + RECORD_WORDS * i);
+        set_sum(skip, template.label, SKIP_ALL);
     }
 }
 
-// Has all bodies of the records skipped.
-pub fn skip_records(words: &[u64], from: usize, records: usize, skip: &mut [u32; LABELS])
-    requires { from + record_words * records ≤ length words.now }
-    ensures { skip.new ≡ skipping skip.old (records_from words.now from records) }
-{
-    skip_labels(words, from, records, skip)
-}
-
-// What is left of `of` after `less`; 0 where there is not so much.
-fn beyond(of: u64, less: u64) -> u64
-    ensures { result ≡ of - less }
-{
-    if of < less { 0 } else { of - less }
-}
-
 // Has the bodies beyond the cap of each record skipped.
+#[tactic(auto, using(crate::proofs::Chosen::none_set, crate::proofs::Chosen::record_set, crate::proofs::Chosen::all_set))]
 pub fn skip_over(
     words: &[u64],
     from: usize,
@@ -60,18 +43,15 @@ pub fn skip_over(
     ensures { skip.new ≡ skipping_over cap counts.now skip.old
         (records_from words.now from records) }
 {
-    let mut left = records;
-    let mut p = from;
-    while left > 0 {
-        let label = record_at(words, p).label;
-        let over = beyond(sum_of(counts, label) as u64, cap as u64);
+    for i in 0..records {
+        let label = record_at(words, from + RECORD_WORDS * i).label;
+        let over = (sum_of(counts, label) as u64).saturating_sub(cap as u64);
         set_sum(skip, label, over as u32);
-        left -= 1;
-        p += RECORD_WORDS;
     }
 }
 
 // How many least recent templates go until the total is at most `room`.
+#[tactic(auto, using(crate::proofs::Chosen::none_evicted, crate::proofs::Chosen::room_made, crate::proofs::Chosen::record_evicted, crate::proofs::Chosen::all_evicted))]
 pub fn evictions_of(
     words: &[u64],
     from: usize,
@@ -83,99 +63,70 @@ pub fn evictions_of(
     requires { from + record_words * records ≤ length words.now }
     ensures { result ≡ evictions_of room sizes.now total (records_from words.now from records) }
 {
-    let mut evicted: usize = 0;
     let mut held = total;
-    let mut left = records;
-    let mut p = from;
-    while left > 0 {
+    for i in 0..records {
         if held <= room {
-            return evicted;
+            return i;
         }
-        let label = record_at(words, p).label;
-        held = beyond(held, sum_of(sizes, label) as u64);
-        evicted += 1;
-        left -= 1;
-        p += RECORD_WORDS;
+        let label = record_at(words, from + RECORD_WORDS * i).label;
+        held = held.saturating_sub(sum_of(sizes, label) as u64);
     }
-    evicted
+    records
 }
 
 // How many of the records have live bodies.
+#[tactic(auto, using(crate::proofs::Chosen::no_record_counted, crate::proofs::Chosen::record_counted, crate::proofs::Chosen::record_passed_over, crate::proofs::Chosen::all_records_counted))]
 pub fn live_records(words: &[u64], from: usize, records: usize, live: &[u32; LABELS]) -> usize
     requires { from + record_words * records ≤ length words.now }
     ensures { result ≡ live_records live.now (records_from words.now from records) }
 {
     let mut counted: usize = 0;
-    let mut left = records;
-    let mut p = from;
-    while left > 0 {
-        if 0 < sum_of(live, record_at(words, p).label) {
+    for i in 0..records {
+        if 0 < sum_of(live, record_at(words, from + RECORD_WORDS * i).label) {
             counted += 1;
         }
-        left -= 1;
-        p += RECORD_WORDS;
     }
     counted
 }
 
 // The label of the first record with live bodies; where there is none, what is no label.
+#[tactic(auto, using(crate::proofs::Chosen::all_sought, crate::proofs::Chosen::live_found_lem, crate::proofs::Chosen::live_further, crate::proofs::Chosen::none_live))]
 pub fn first_live(words: &[u64], from: usize, records: usize, live: &[u32; LABELS]) -> u64
     requires { from + record_words * records ≤ length words.now }
     ensures { result ≡ first_live live.now (records_from words.now from records) }
 {
-    let mut left = records;
-    let mut p = from;
-    while left > 0 {
-        let label = record_at(words, p).label;
+    for i in 0..records {
+        let label = record_at(words, from + RECORD_WORDS * i).label;
         if 0 < sum_of(live, label) {
             return label;
         }
-        left -= 1;
-        p += RECORD_WORDS;
     }
     LABELS as u64
 }
 
 // The least label that has 0; where there is none, the length of `used`.
+
 fn least_free(used: &[u32]) -> u64
     ensures { result ≡ least_free used.now 0 (length used.now) }
 {
-    let mut label: u64 = 0;
-    let mut left = used.len();
-    while left > 0 {
-        if nth_sum(used, label) == 0 {
-            return label;
-        }
-        label += 1;
-        left -= 1;
-    }
-    label
-}
-
-// The greater of two numbers.
-fn greater(a: u64, b: u64) -> u64
-    ensures { result ≡ greater_of a b }
-{
-    if a < b { b } else { a }
+    used.iter().position(|sum| *sum == 0).unwrap_or(used.len()) as u64
 }
 
 // The greatest label of the records; 0 where there is none.
+#[tactic(auto, using(crate::proofs::GreatestLabels::no_label_passed, crate::proofs::GreatestLabels::label_passed, crate::proofs::GreatestLabels::all_labels_passed))]
 fn greatest_label(words: &[u64], from: usize, records: usize) -> u64
     requires { from + record_words * records ≤ length words.now }
     ensures { result ≡ greatest_label 0 (records_from words.now from records) }
 {
     let mut greatest: u64 = 0;
-    let mut left = records;
-    let mut p = from;
-    while left > 0 {
-        greatest = greater(greatest, record_at(words, p).label);
-        left -= 1;
-        p += RECORD_WORDS;
+    for i in 0..records {
+        greatest = greatest.max(record_at(words, from + RECORD_WORDS * i).label);
     }
     greatest
 }
 
 // The last label that is taken as the one behind the greatest: few records keep to few labels.
+#[tactic(auto, unfolding(crate::specs::Choose::last_label))]
 fn last_label(records: usize) -> u64
     ensures { result ≡ last_label records }
 {
@@ -192,7 +143,7 @@ fn least_unused(words: &[u64], from: usize, records: usize, used: &mut [u32]) ->
     requires room_for_labels { RoomForLabels records used.old }
     ensures { FreeLabel (records_from words.now from records) result }
 {
-    skip_labels(words, from, records, used);
+    skip_records(words, from, records, used);
     least_free(used)
 }
 

@@ -12,13 +12,11 @@ use table::{LABELS, record_at};
 fn whole_count(skipped: u32, count: u64) -> u32
     ensures { result ≡ whole_count skipped count }
 {
-    if skipped == 0 {
-        return capped_count(count);
-    }
-    0
+    if skipped == 0 { capped_count(count) } else { 0 }
 }
 
 // Sets in `kept` how many bodies of each record stay. No entry is looked at.
+#[tactic(auto, using(crate::proofs::Chosen::none_set, crate::proofs::Chosen::record_set, crate::proofs::Chosen::all_set))]
 pub fn count_whole(
     words: &[u64],
     from: usize,
@@ -30,17 +28,13 @@ pub fn count_whole(
     ensures { kept.new ≡ whole_counts skip.now kept.old (records_from words.now from
         records) }
 {
-    let mut left = records;
-    let mut p = from;
-    while left > 0 {
-        let template = record_at(words, p);
+    for i in 0..records {
+        let template = record_at(words, from + RECORD_WORDS * i);
         let label = template.label;
         set_sum(
             kept,
             label,
             whole_count(sum_of(skip, label), template.count),
         );
-        left -= 1;
-        p += RECORD_WORDS;
     }
 }

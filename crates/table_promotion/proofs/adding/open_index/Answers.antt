@@ -1,16 +1,22 @@
-use borrow.Author.Rules.{rules}
+use Rattle.std.proofs.Common.{◌≡◌, ◌+◌, ◌-◌, subst, arith, rules}
+use Rattle.table_records.specs.Passes.{OpensIndex}
 use Rattle.table_records.proofs.OpensIndex.{none_opened, not_greater, key_moved, all_greater}
 use Rattle.table_promotion.proofs.adding.open_index.Goals as goal
 
-pub loop-free-init : goal.loop-free-init
-loop-free-init c = none_opened _ _ _ _
+pub loop-k-init : goal.loop-k-init
+loop-k-init c = none_opened _ _ _ _
 
 pub returns-then-key_at-key : goal.returns-then-key_at-key
-returns-then-key_at-key c = search (not_greater, rules)
+returns-then-key_at-key c =
+    let here : c.loop-k.k - 1 + 1 ≡ c.loop-k.k = omega arith in
+    rw here (search (not_greater, rules))
 
-pub loop-free-preserved : goal.loop-free-preserved
-loop-free-preserved c = key_moved c.loop-free.invariant _ (search rules) c.key_at.ensures
+pub loop-k-preserved : goal.loop-k-preserved
+loop-k-preserved c = key_moved c.loop-k.invariant _ (search rules) c.key_at.ensures
     (search rules) c.if-key_at-key.false
 
 pub returns : goal.returns
-returns c = search (all_greater, rules)
+returns c =
+    let none : c.loop-k.k ≡ 0 = omega arith in
+    subst (λ k. OpensIndex c.args.from c.args.records c.args.key c.args.words.now c.loop-k.words k) none
+    (all_greater c.loop-k.invariant (omega arith))

@@ -1,12 +1,6 @@
 use borrow.Author.Rules.{rules}
-use Rattle.table_records.proofs.Chosen.{none_set, beyond_cap, record_set, all_set}
+use Rattle.table_records.proofs.Chosen.{record_set, beyond_cap}
 use Rattle.table_records.proofs.choosing.skip_over.Goals as goal
 
-pub loop-left-init : goal.loop-left-init
-loop-left-init c = search (none_set, rules)
-
-pub loop-left-preserved : goal.loop-left-preserved
-loop-left-preserved c = search (record_set, beyond_cap, rules)
-
-pub returns : goal.returns
-returns c = search (all_set, rules)
+pub loop-i-preserved : goal.loop-i-preserved
+loop-i-preserved c = search (record_set, beyond_cap, rules)

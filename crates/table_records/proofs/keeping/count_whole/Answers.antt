@@ -1,13 +1,7 @@
 use borrow.Author.Rules.{rules}
-use Rattle.table_records.proofs.Chosen.{none_set, record_set, all_set}
+use Rattle.table_records.proofs.Chosen.{record_set}
 use Rattle.table_records.proofs.Whole.{whole_kept}
 use Rattle.table_records.proofs.keeping.count_whole.Goals as goal
 
-pub loop-left-init : goal.loop-left-init
-loop-left-init c = search (none_set, rules)
-
-pub loop-left-preserved : goal.loop-left-preserved
-loop-left-preserved c = search (record_set, whole_kept, rules)
-
-pub returns : goal.returns
-returns c = search (all_set, rules)
+pub loop-i-preserved : goal.loop-i-preserved
+loop-i-preserved c = search (record_set, whole_kept, rules)
