@@ -107,3 +107,6 @@ module _ {X : Type 0} where
   moved_further from to k n all xs xs' xs'' e e' down source le ge =
       let whole : k + n ≡ all = omega arith in
       e ∙ ap (moved (from + k) (to + k) n) e' ∙ moved_on from to k n xs down (omega arith) ∙ rw whole
+
+-- what moves to a lower place by blocks stand on
+pub ruleset down = (moved_to_itself, moved_none, moved_further)

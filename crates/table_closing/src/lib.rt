@@ -11,6 +11,7 @@ use table::{INDEX, LABELS, TemplateRecord, record_at};
 use table_records::{put_record, sum_of};
 
 // What stands for the new position of a record that goes.
+// No Option: it would take twice the room in the array, and the promises have positions as such numbers.
 const NOWHERE: u32 = 1024;
 
 // Moves the records that remain together, with their counts anew, and notes the new position of each.

@@ -1,5 +1,5 @@
 -- The passes that sum entries, turn by turn. Assumes nothing.
-use Rattle.std.proofs.Common.{◌≡◌, ℕ, ◌+◌, ◌-◌, ◌*◌, ◌<◌, ◌≤◌, min, Bool, true, false, cond, List, length, get_or, set, sym, refl, ap, ◌∙◌, arith, length-set}
+use Rattle.std.proofs.Common.{◌≡◌, ℕ, ◌+◌, ◌-◌, ◌*◌, ◌<◌, ◌≤◌, min, Bool, true, false, cond, List, length, get_or, sym, refl, arith}
 use lib.Seq.{set_out}
 use Rattle.config.specs.Limits.{entry_words}
 use Rattle.table.specs.declared.Entry.{Entry}
@@ -48,3 +48,5 @@ module _ (w : List ℕ) (entries : ℕ) (q : StayTest) (bytes : Bool) where
 
       pub entry_passed : v ≡ false → SumsPassed w entries q bytes sums₀ sums left' p'
       entry_passed h = rw (less, at) record { reached = omega (arith, inv.reached); rest = rw (← test, h) at next }
+
+pub ruleset passes = (none_summed, entry_summed, entry_passed, all_summed)

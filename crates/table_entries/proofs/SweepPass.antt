@@ -1,5 +1,5 @@
 -- What is to be skipped, and what the sweep keeps of a first entry and others. Assumes nothing.
-use Rattle.std.proofs.Common.{◌≡◌, ℕ, ◌-◌, ◌≤◌, Bool, true, false, List, [], ◌∷◌, length, get_or, set, sym, refl, ap, ◌∙◌, arith, length-set, ltb-false, lt-ltb}
+use Rattle.std.proofs.Common.{◌≡◌, ℕ, ◌-◌, ◌≤◌, Bool, true, false, List, [], ◌∷◌, length, get_or, set, sym, refl, ap, ◌∙◌, arith, ltb-false, lt-ltb}
 use lib.ListN.{get_or-eq_default}
 use lib.Seq.{set-get_or}
 use Rattle.table.specs.declared.Entry.{Entry}
@@ -23,6 +23,8 @@ module _ (skip : List ℕ) (label : ℕ) where
 
   pub one_of_label : (get_or skip label 0 ≡ 0 → ⊥) → Spends label skip (less_at skip label) true
   one_of_label some = record { test = sym (lt-ltb 0 (get_or skip label 0) (omega arith)); after = refl }
+
+pub ruleset spending = (none_of_label, no_label, one_of_label)
 
 module _ (q : StayTest) where
   pub none_swept : (skip : List ℕ) → swept q skip [] ≡ []

@@ -29,6 +29,7 @@ fn add_at(sums: &mut [u32; LABELS], label: u64, n: u64)
 }
 
 // What an entry adds: its length, or one.
+// A flag and no closure: the promise has the flag too, so that a clause would have to tie the closure's answers to it.
 fn share_of(entry: Entry, bytes: bool) -> u64
     ensures { result ≡ share bytes entry }
 {
@@ -36,7 +37,7 @@ fn share_of(entry: Entry, bytes: bool) -> u64
 }
 
 // Adds to each label's sum the lengths, or the number, of its entries that stay by themselves.
-#[tactic(auto, using(crate::proofs::SumsPasses::none_summed, crate::proofs::SumsPasses::entry_summed, crate::proofs::SumsPasses::entry_passed, crate::proofs::SumsPasses::all_summed))]
+#[tactic(auto, using(crate::proofs::SumsPasses::passes))]
 pub fn sums_by_label(
     words: &[u64],
     entries: usize,

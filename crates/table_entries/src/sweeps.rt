@@ -19,7 +19,7 @@ pub struct Kept {
 }
 
 // Takes one off what is to be skipped of a label; whether there was one. Of a label that is none there is none.
-#[tactic(auto, using(crate::proofs::SweepPass::none_of_label, crate::proofs::SweepPass::no_label, crate::proofs::SweepPass::one_of_label))]
+#[tactic(auto, using(crate::proofs::SweepPass::spending))]
 fn spend(skip: &mut [u32; LABELS], label: u64) -> bool
     ensures { Spends label skip.old skip.new result }
 {

@@ -12,10 +12,11 @@ use table::{INDEX, record_at};
 use table_records::{capped_count, put_record};
 
 // What stands for the new position of a record that goes.
+// No Option: the promises have positions as such numbers, and it would be told apart from a number again at once.
 const NOWHERE: u64 = 1024;
 
 // The place of the first record with this label; where none has it, the number of records.
-#[tactic(auto, using(table_records::proofs::Places::none_passed, table_records::proofs::Places::no_place, table_records::proofs::Places::place_found, table_records::proofs::Places::place_further))]
+#[tactic(auto, using(table_records::proofs::Places::seeking))]
 pub fn place_of(words: &[u64], from: usize, records: usize, label: u64) -> usize
     requires { from + record_words * records ≤ length words.now }
     ensures { result ≡ place_of label (records_from words.now from records) }

@@ -143,3 +143,12 @@ module _ {w live : List ℕ} {p n i : ℕ} (inv : LiveSought w live p n i) where
     live_further h = record {
       same = inv.same ∙ rw (rest_first w p n i r more is, ← has, le-ltb 0 k h);
     }
+
+-- the lemmas of each pass
+pub ruleset setting = (none_set, record_set, all_set)
+
+pub ruleset evicting = (none_evicted, room_made, record_evicted, all_evicted)
+
+pub ruleset counting = (no_record_counted, record_counted, record_passed_over, all_records_counted)
+
+pub ruleset seeking = (all_sought, live_found_lem, live_further, none_live)

@@ -2,10 +2,9 @@
 use mathlib.Core.Path.{◌≡◌, refl, sym, ap, ◌∙◌}
 use mathlib.Core.Bool.{Bool, true, false, cond}
 use mathlib.Core.List.{List, [], ◌∷◌}
-use Prim.Native.Nat.{ℕ, max, ◌+◌, ◌*◌, ◌-◌, ◌≤◌, ◌<◌}
+use Prim.Native.Nat.{ℕ, max, ◌+◌, ◌*◌, ◌≤◌, ◌<◌}
 use native.Mathlib.Omega.{arith}
 use lib.Dec.{ltb}
-use lib.ListN.{length}
 use borrow.Author.Tests.{ltb-true, ltb-false, lt-ltb, le-ltb, ne_eqb}
 use Rattle.config.specs.Limits.{record_words}
 use Rattle.table.specs.declared.TemplateRecord.{TemplateRecord}
@@ -40,6 +39,8 @@ module _ {w : List ℕ} {p n greatest i : ℕ} (inv : GreatestPassed w p n great
   pub all_labels_passed : n ≤ i → greatest ≡ greatest_label 0 (records_from w p n)
   unfolding greatest_label
   all_labels_passed h = sym (inv.rest_passed ∙ rw (rest_none w p n i h))
+
+pub ruleset passes = (no_label_passed, label_passed, all_labels_passed)
 
 greater_most : (a b : ℕ) → (a ≤ greater_of a b) × (b ≤ greater_of a b)
 greater_most a b = by_test (ltb a b) refl

@@ -46,6 +46,8 @@ module _ {w : List ℕ} {label p n i : ℕ} (inv : PlaceSought w label p n i) wh
         rw (rest_first w p n i r more is, ne_eqb label r.label d) in
         record { rest_sought = omega (arith, inv.rest_sought) }
 
+pub ruleset seeking = (none_passed, no_place, place_found, place_further)
+
 -- what is known of each record is known of the one at its place, which has the label
 pub place_has : (P : TemplateRecord → Type 0) (label : ℕ) (w : List ℕ) (p k : ℕ) → All P (records_from w p k) →
     place_of label (records_from w p k) < k → let r = record_at w

@@ -18,7 +18,7 @@ const LAST_LABEL: u64 = 1023;
 const LAST_OF_FEW: u64 = 31;
 
 // Has all bodies of the records skipped; a label past the end of the slice is left out.
-#[tactic(auto, using(crate::proofs::Chosen::none_set, crate::proofs::Chosen::record_set, crate::proofs::Chosen::all_set))]
+#[tactic(auto, using(crate::proofs::Chosen::setting))]
 pub fn skip_records(words: &[u64], from: usize, records: usize, skip: &mut [u32])
     requires { from + record_words * records ≤ length words.now }
     ensures { skip.new ≡ skipping skip.old (records_from words.now from records) }
@@ -30,7 +30,7 @@ pub fn skip_records(words: &[u64], from: usize, records: usize, skip: &mut [u32]
 }
 
 // Has the bodies beyond the cap of each record skipped.
-#[tactic(auto, using(crate::proofs::Chosen::none_set, crate::proofs::Chosen::record_set, crate::proofs::Chosen::all_set))]
+#[tactic(auto, using(crate::proofs::Chosen::setting))]
 pub fn skip_over(
     words: &[u64],
     from: usize,
@@ -51,7 +51,7 @@ pub fn skip_over(
 }
 
 // How many least recent templates go until the total is at most `room`.
-#[tactic(auto, using(crate::proofs::Chosen::none_evicted, crate::proofs::Chosen::room_made, crate::proofs::Chosen::record_evicted, crate::proofs::Chosen::all_evicted))]
+#[tactic(auto, using(crate::proofs::Chosen::evicting))]
 pub fn evictions_of(
     words: &[u64],
     from: usize,
@@ -75,7 +75,7 @@ pub fn evictions_of(
 }
 
 // How many of the records have live bodies.
-#[tactic(auto, using(crate::proofs::Chosen::no_record_counted, crate::proofs::Chosen::record_counted, crate::proofs::Chosen::record_passed_over, crate::proofs::Chosen::all_records_counted))]
+#[tactic(auto, using(crate::proofs::Chosen::counting))]
 pub fn live_records(words: &[u64], from: usize, records: usize, live: &[u32; LABELS]) -> usize
     requires { from + record_words * records ≤ length words.now }
     ensures { result ≡ live_records live.now (records_from words.now from records) }
@@ -90,7 +90,7 @@ pub fn live_records(words: &[u64], from: usize, records: usize, live: &[u32; LAB
 }
 
 // The label of the first record with live bodies; where there is none, what is no label.
-#[tactic(auto, using(crate::proofs::Chosen::all_sought, crate::proofs::Chosen::live_found_lem, crate::proofs::Chosen::live_further, crate::proofs::Chosen::none_live))]
+#[tactic(auto, using(crate::proofs::Chosen::seeking))]
 pub fn first_live(words: &[u64], from: usize, records: usize, live: &[u32; LABELS]) -> u64
     requires { from + record_words * records ≤ length words.now }
     ensures { result ≡ first_live live.now (records_from words.now from records) }
@@ -113,7 +113,7 @@ fn least_free(used: &[u32]) -> u64
 }
 
 // The greatest label of the records; 0 where there is none.
-#[tactic(auto, using(crate::proofs::GreatestLabels::no_label_passed, crate::proofs::GreatestLabels::label_passed, crate::proofs::GreatestLabels::all_labels_passed))]
+#[tactic(auto, using(crate::proofs::GreatestLabels::passes))]
 fn greatest_label(words: &[u64], from: usize, records: usize) -> u64
     requires { from + record_words * records ≤ length words.now }
     ensures { result ≡ greatest_label 0 (records_from words.now from records) }

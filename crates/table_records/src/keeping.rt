@@ -16,7 +16,7 @@ fn whole_count(skipped: u32, count: u64) -> u32
 }
 
 // Sets in `kept` how many bodies of each record stay. No entry is looked at.
-#[tactic(auto, using(crate::proofs::Chosen::none_set, crate::proofs::Chosen::record_set, crate::proofs::Chosen::all_set))]
+#[tactic(auto, using(crate::proofs::Chosen::setting))]
 pub fn count_whole(
     words: &[u64],
     from: usize,

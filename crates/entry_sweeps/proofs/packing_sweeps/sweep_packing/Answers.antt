@@ -30,11 +30,11 @@ loop-i-preserved c =
     let up : entries_at + entry_words * (c.loop-i.kept + 1) ≡ entries_at + entry_words * c.loop-i.kept + entry_words =
     omega arith in
     elim c.if-stays.branch [
-  | then-stays v ↦ rw (v.words-is ∙ v.put_entry.ensures, v.bytes-is, v.run-is, v.kept-is)
-      (search (entry_packed, v.run_up_to-run.ensures, first_kept, rules))
-  | else-stays v ↦ rw (v.words-is, v.bytes-is, v.run-is, v.kept-is)
-      (search (entry_passed_over, first_goes, rules))
-]
+      | then-stays v ↦ rw (v.words-is ∙ v.put_entry.ensures, v.bytes-is, v.run-is, v.kept-is)
+          (search (entry_packed, v.run_up_to-run.ensures, first_kept, rules))
+      | else-stays v ↦ rw (v.words-is, v.bytes-is, v.run-is, v.kept-is)
+          (search (entry_passed_over, first_goes, rules))
+    ]
 
 pub returns : goal.returns
 returns c = let none : c.args.entries - c.loop-i.i ≤ 0 = omega arith in search (all_packed_up, none_kept_by, rules)

@@ -21,14 +21,14 @@ loop-i-preserved c =
     let up : entries_at + entry_words * (c.loop-i.kept + 1) ≡ entries_at + entry_words * c.loop-i.kept + entry_words =
     omega arith in
     elim c.if-stays.branch [
-  | then-stays v ↦ rw (
-    v.words-is ∙ v.move_entry.ensures ∙ ap (put_entry _ _) (sym c.entry_at-entry.ensures),
-    v.kept-is,
-    v.bytes-is,
-  )
-      (search (entry_kept, first_kept, rules))
-  | else-stays v ↦ rw (v.words-is, v.kept-is, v.bytes-is) (search (entry_left_out, first_goes, rules))
-]
+      | then-stays v ↦ rw (
+        v.words-is ∙ v.move_entry.ensures ∙ ap (put_entry _ _) (sym c.entry_at-entry.ensures),
+        v.kept-is,
+        v.bytes-is,
+      )
+          (search (entry_kept, first_kept, rules))
+      | else-stays v ↦ rw (v.words-is, v.kept-is, v.bytes-is) (search (entry_left_out, first_goes, rules))
+    ]
 
 pub returns : goal.returns
 returns c = let none : c.args.entries - c.loop-i.i ≤ 0 = omega arith in search (none_left, none_kept_by, rules)
