@@ -5,17 +5,13 @@ ghost use Rattle.table.specs.Layout.{ttl_of};
 ghost use Rattle.pending_flows.specs.View.{areas_of};
 ghost use Rattle.export_queries.specs.Exports.{limits_from, ExportsValidate, ExportsOpen};
 
-use config::{PendingFlowsConfig};
+use config::PendingFlowsConfig;
 
 // No TTL where `has_ttl` is 0.
 fn ttl_from(has_ttl: u32, ttl: u64) -> Option<u64>
     ensures { result ≡ ttl_of has_ttl ttl }
 {
-    if has_ttl == 0 {
-        None
-    } else {
-        Some(ttl)
-    }
+    if has_ttl == 0 { None } else { Some(ttl) }
 }
 
 // The limits that these numbers say.

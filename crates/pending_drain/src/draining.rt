@@ -16,7 +16,9 @@ ghost use Rattle.pending_drain.specs.Promises.{Drains};
 use config::{PendingFlowsConfig, RECORD_WORDS};
 use pending_calls::{Removed, raised, remove_expired, remove_none};
 use pending_flows::{HeaderFigures, figures_at, handed_count, write_header};
-use table::{Damaged, LABELS, TemplateRecord, count_of, label_for, limits_at, live_figures, records_at};
+use table::{
+    Damaged, LABELS, TemplateRecord, count_of, label_for, limits_at, live_figures, records_at,
+};
 use table_promotion::add_record;
 use table_records::skip_records;
 use template_removal::remove_expired_of;

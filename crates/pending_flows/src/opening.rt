@@ -6,7 +6,11 @@ use super::header::{HeaderFigures, write_header};
 use config::{ConfigRefusal, PendingFlowsConfig};
 
 // Opens an empty cache with both counters 0 in areas with any content, or refuses the limits.
-pub fn open(config: PendingFlowsConfig, words: &mut [u64], bytes: &[u8]) -> Result<(), ConfigRefusal>
+pub fn open(
+    config: PendingFlowsConfig,
+    words: &mut [u64],
+    bytes: &[u8],
+) -> Result<(), ConfigRefusal>
     ensures { Opens config (areas_of words.old bytes.now) result
         (areas_of words.new bytes.now) }
 {

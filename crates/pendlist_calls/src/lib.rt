@@ -11,21 +11,22 @@ ghost use Rattle.pending_offer.specs.Promises.{body_of, offer_answer};
 ghost use Rattle.pending_drain.specs.Promises.{drain_answer};
 ghost use Rattle.pendlist_calls.specs.Steps.{figure_of, row_after, Steps, RunsLine};
 
-use config::{PendingFlowsConfig};
-use pending_drain::{DrainAnswer, drain};
+use config::PendingFlowsConfig;
+use pending_drain::drain;
 use pending_flows::open;
-use pending_offer::{OfferAnswer, OfferRefusal, cache};
-use pending_queries::{FiguresAnswer, take_figures};
+use pending_offer::{OfferRefusal, cache};
+use pending_queries::take_figures;
 use pendlist_commands::{Command, DrainLine, OfferLine};
 use pendlist_input::fill_body;
 use pendlist_lines::{in_order, parse_line};
 use pendlist_rows::{Outcome, Row};
+use table::Damaged;
 
 // The row of a call, with the figures after it.
 fn row_after(words: &[u64], bytes: &[u8], call: u8, answer: u64) -> Outcome
     ensures { result ≡ row_after call answer (view (areas_of words.now bytes.now)) }
 {
-    let FiguresAnswer::At(figures) = take_figures(words, bytes) else {
+    let Ok(figures) = take_figures(words, bytes) else {
         return Outcome::Bad;
     };
     Outcome::Told(Row {
@@ -43,23 +44,19 @@ fn run_open(words: &mut [u64], bytes: &[u8], config: PendingFlowsConfig) -> Outc
     ensures { Steps (Some (Says.Open config)) (areas_of words.old bytes.now) result
         (areas_of words.new bytes.now) }
 {
-    let Ok(()) = open(config, words, bytes) else {
-        return Outcome::Bad;
-    };
-    Outcome::Opened
+    match open(config, words, bytes) {
+        Ok(()) => Outcome::Opened,
+        Err(_) => Outcome::Bad,
+    }
 }
 
 // An offer's answer in the table: 0, or its number.
-fn offer_figure(answer: OfferAnswer) -> u64
+fn offer_figure(answer: Result<(), OfferRefusal>) -> u64
     ensures { result ≡ figure_of (offer_answer answer) }
 {
     match answer {
-        OfferAnswer::Cached => 0,
-        OfferAnswer::Refused(refusal) => match refusal {
-            OfferRefusal::TooLong => 6,
-            OfferRefusal::TemplateFull => 20,
-            OfferRefusal::Damaged => 28,
-        },
+        Ok(()) => 0,
+        Err(refusal) => u32::from(refusal) as u64,
     }
 }
 
@@ -70,7 +67,7 @@ fn offer_filled(
     id: u16,
     body: &mut [u8],
     clock: u64,
-) -> OfferAnswer
+) -> Result<(), OfferRefusal>
     ensures { Performs (offered id (body_of (ramp 0 (length body.old)) clock))
         (areas_of words.old bytes.old) (offer_answer result)
         (areas_of words.new bytes.new) }
@@ -79,20 +76,16 @@ fn offer_filled(
     cache(words, bytes, id, body, clock)
 }
 
-// Room for a body of any length.
-fn body_room() -> [u8; 65535]
-    ensures { 65535 ≡ length result }
-{
-    [0; 65535]
-}
+// The longest body that a line offers.
+const LONGEST: usize = 65535;
 
 // Offers a body of the line's length.
-fn offer_line(words: &mut [u64], bytes: &mut [u8], line: OfferLine) -> OfferAnswer
+fn offer_line(words: &mut [u64], bytes: &mut [u8], line: OfferLine) -> Result<(), OfferRefusal>
     ensures { Performs (offered line.id (body_of (ramp 0 line.len) line.clock))
         (areas_of words.old bytes.old) (offer_answer result)
         (areas_of words.new bytes.new) }
 {
-    let mut room = body_room();
+    let mut room = [0; LONGEST];
     let len = line.len as usize;
     offer_filled(words, bytes, line.id, &mut room[..len], line.clock)
 }
@@ -107,12 +100,12 @@ fn run_offer(words: &mut [u64], bytes: &mut [u8], line: OfferLine) -> Outcome
 }
 
 // A drain's answer in the table: how many bodies are handed out, or the number.
-fn drain_figure(answer: DrainAnswer) -> u64
+fn drain_figure(answer: Result<usize, Damaged>) -> u64
     ensures { result ≡ figure_of (drain_answer answer) }
 {
     match answer {
-        DrainAnswer::HandedOut(n) => n as u64,
-        DrainAnswer::Damaged => 28,
+        Ok(count) => count as u64,
+        Err(damaged) => u32::from(damaged) as u64,
     }
 }
 

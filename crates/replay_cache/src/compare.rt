@@ -39,8 +39,9 @@ fn same_list(
     let Some(next) = same_templates(words, bytes, line, at, offered) else {
         return false;
     };
-    same_handed_out(words, bytes, handed, line, next, offered)
-        .is_some_and(|end| !goes_on(line, end))
+    same_handed_out(words, bytes, handed, line, next, offered).is_some_and(|end| !goes_on(
+        line, end,
+    ))
 }
 
 // What of a row differs from the answer and the areas after it.

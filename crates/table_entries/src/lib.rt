@@ -6,7 +6,6 @@ mod stay;
 mod sums;
 mod sweeps;
 
-
 pub use pack::{Run, last_end, move_run, pack_bodies, run_up_to};
 pub use stay::stays;
 pub use sums::sums_by_label;

@@ -13,7 +13,7 @@ ghost use Rattle.pending_flows.specs.Header.{figures_at};
 ghost use Rattle.pending_calls.specs.Removal.{everything, RemovesFrom};
 ghost use Rattle.template_removal.specs.Taking.{TakesBoth};
 
-use config::{PendingFlowsConfig};
+use config::PendingFlowsConfig;
 use entry_sweeps::sweep_staying;
 pub use expired::remove_expired_of;
 pub use packing::remove_packing;

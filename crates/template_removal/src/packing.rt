@@ -8,7 +8,7 @@ ghost use Rattle.pending_calls.specs.Removal.{everything};
 ghost use Rattle.template_removal.specs.Packing.{RemovesPacking};
 
 use super::take_both;
-use config::{PendingFlowsConfig};
+use config::PendingFlowsConfig;
 use entry_sweeps::sweep_packing;
 use pending_calls::{Removed, label_test};
 use pending_flows::HeaderFigures;
