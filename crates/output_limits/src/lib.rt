@@ -48,6 +48,7 @@ impl From<LimitsRefusal> for u32 {
 
 impl DecodedOutputLimits {
     // The three limits, unless one of them is 0.
+    #[tactic(auto, unfolding(crate::specs::Limits::limits_told))]
     pub fn new(
         max_records: usize,
         max_field_values: FieldValues,
