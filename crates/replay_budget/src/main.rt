@@ -6,15 +6,11 @@
 
 mod calls;
 
-ghost use Rattle.std.specs.Prelude.{◌≤◌, length};
-
 use budget_words::write_budget;
 use calls::{Told, run_call};
 use output_budget::DecodedOutputBudget;
 use output_preflight::{FieldValues, PayloadBytes};
-use recorded::{
-    BUFFER, BUFFERS, Tally, fill, first_digit, move_to_front, next_number, whole_lines,
-};
+use recorded::{BUFFER, BUFFERS, Tally, fill, move_to_front, next_number, whole_lines};
 
 // The rows run so far, and the budget that the next call goes on with.
 #[derive(Clone, Copy)]
@@ -23,23 +19,16 @@ struct Replay {
     budget: DecodedOutputBudget,
 }
 
-// The numbers of a row, and where the text goes on.
-#[derive(Drop)]
-struct Row {
-    numbers: [u64; 19],
-    next: usize,
-}
-
-// Reads the row that begins at `at`.
-fn read_row(text: &[u8], at: usize) -> Row {
+// The numbers of a row.
+fn read_row(row: &[u8]) -> [u64; 19] {
     let mut numbers = [0; 19];
-    let mut next = at;
+    let mut at = 0;
     for number in &mut numbers {
-        let read = next_number(text, next);
+        let read = next_number(row, at);
         *number = read.value;
-        next = read.next;
+        at = read.next;
     }
-    Row { numbers, next }
+    numbers
 }
 
 // Whether the answer and the budget after it are the recorded ones.
@@ -51,29 +40,13 @@ fn same(got: Told, budget: DecodedOutputBudget, row: &[u64; 19]) -> bool {
         && words.as_slice() == &row[12..]
 }
 
-// Runs the row that begins at `at`, and answers where the text goes on.
-fn run_row(rt: &impl Print, text: &[u8], at: usize, replay: &mut Replay) -> usize {
-    let Row { numbers, next } = read_row(text, at);
-    let got = run_call(&numbers, &mut replay.budget);
-    let same = same(got, replay.budget, &numbers);
-    replay.tally = replay.tally.with_row(rt, same);
-    next
-}
-
-// Runs the rows of a text.
+// Runs the rows of a text, a line each, and names those that differ.
 fn run_rows(rt: &impl Print, text: &[u8], replay: &mut Replay) {
-    let mut at = 0;
-    // no iterator: a row ends where its last number does, which only reading it tells
-    while at < text.len() {
-        let start = first_digit(text, at);
-        if start == text.len() {
-            break;
-        }
-        let next = run_row(rt, text, start, replay);
-        if next <= at {
-            break;
-        }
-        at = next;
+    for row in text.split_inclusive(|byte| *byte == b'\n') {
+        let numbers = read_row(row);
+        let got = run_call(&numbers, &mut replay.budget);
+        let same = same(got, replay.budget, &numbers);
+        replay.tally = replay.tally.with_row(rt, same);
     }
 }
 
@@ -97,18 +70,17 @@ fn run_wrong_rows(rt: &impl Print) {
 fn main(rt: HostRuntime) {
     run_wrong_rows(&rt);
     let mut reader = rt.reader();
-    let mut room = [0u8; BUFFER];
-    let buffer: &mut [u8] = &mut room;
+    let mut buffer = [0u8; BUFFER];
     let mut replay = begin();
     let mut kept = 0;
     for _ in 0..BUFFERS {
-        let n = fill(&mut reader, buffer, kept);
-        let lines = whole_lines(buffer, n);
+        let n = fill(&mut reader, &mut buffer, kept);
+        let lines = whole_lines(&buffer, n);
         if lines == 0 {
             break;
         }
         run_rows(&rt, &buffer[..lines], &mut replay);
-        kept = move_to_front(buffer, lines, n);
+        kept = move_to_front(&mut buffer, lines, n);
     }
     replay.tally.print(&rt);
 }
