@@ -1,6 +1,6 @@
 -- The decoded-output budget (document 01, numbers 23, 24 and 26). `.0` of a count is its number.
-use Rattle.std.specs.Prelude.{◌≡◌, Bool, true, false, cond, ◌||◌, List, [], ◌∷◌, ℕ, ◌+◌, ◌-◌, ◌≤◌, ◌^◌, min, max, ltb, eqb}
-use Rattle.std.specs.Prelude.{Option, Some, None, Result, Ok, Err}
+use Rattle.std.specs.Prelude.{◌≡◌, Bool, true, false, cond, ◌||◌, List, [], ◌∷◌, Option, Some, None, Result, Ok, Err}
+use Rattle.std.specs.Prelude.{ℕ, ◌+◌, ◌-◌, ◌≤◌, ◌^◌, min, max, ltb, eqb}
 use Rattle.output_preflight.specs.declared.FieldValues.{FieldValues}
 use Rattle.output_preflight.specs.declared.PayloadBytes.{PayloadBytes}
 use Rattle.output_budget.specs.declared.DecodedOutputLimit.{DecodedOutputLimit}
@@ -22,7 +22,8 @@ opened v p = record {
 }
 
 -- the same limits, with this use and this record
-abbrev pub with_use : DecodedOutputBudget → FieldValues → PayloadBytes → Option OutputBudgetExceeded → DecodedOutputBudget
+abbrev pub with_use :
+    DecodedOutputBudget → FieldValues → PayloadBytes → Option OutputBudgetExceeded → DecodedOutputBudget
 with_use b v p x = record {
   max_values = b.max_values;
   max_payload_bytes = b.max_payload_bytes;

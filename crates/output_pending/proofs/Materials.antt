@@ -20,4 +20,6 @@ within_left most used more e = omega (arith, ltb-false (most - used) more e)
 -- a cost that is not above what remains
 pub left_within : (b : DecodedOutputBudget) (cost : PendingOutputPreflight) → above cost (remaining_of b) ≡ false
     → SumsWithin b cost.field_values cost.field_payload_bytes
-left_within b cost h = let n = neither _ _ h in record { values = within_left _ _ _ n.0; payload = within_left _ _ _ n.1 }
+left_within b cost h =
+    let n = neither _ _ h in
+    record { values = within_left _ _ _ n.0; payload = within_left _ _ _ n.1 }
