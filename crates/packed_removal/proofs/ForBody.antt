@@ -1,14 +1,13 @@
 -- A removal for an offered body: whether it must pack is certain where the last body stays, and it leaves what the plan
 -- leaves, packed. Assumes nothing.
-use mathlib.Core.Path.{◌≡◌, refl, sym, ap, ◌∙◌}
+use mathlib.Core.Path.{◌≡◌, refl, ap, ◌∙◌}
 use mathlib.Core.Logic.{inl, inr}
 use mathlib.Core.Bool.{Bool, true, false, cond}
 use mathlib.Core.List.{List, [], ◌∷◌, ◌++◌}
 use Prim.Native.Nat.{ℕ, ◌+◌, ◌*◌, ◌-◌, ◌≤◌, ◌<◌}
 use native.Mathlib.Omega.{arith}
-use lib.Dec.{ltb}
 use lib.ListN.{length, set, replicate}
-use borrow.Author.Tests.{ltb-true, ne_eqb}
+use borrow.Author.Tests.{ne_eqb}
 use Rattle.config.specs.declared.PendingFlowsConfig.{PendingFlowsConfig}
 use Rattle.config.specs.Limits.{entry_words}
 use Rattle.table.specs.declared.Entry.{Entry}
@@ -34,16 +33,6 @@ use Rattle.planned_removal.specs.Alone.{GoesAlone}
 use Rattle.planned_removal.specs.Planned.{RemovesPlanned}
 use Rattle.planned_removal.proofs.AloneGoing.{alone_removed}
 use Rattle.packed_removal.specs.ForBody.{EndsPast, RemovesForBody}
-
--- by the code's tests
-pub past_behind : (label len most m : ℕ) (w : List ℕ) (e : Entry) (end : ℕ) → (m ≡ 0 → ⊥) →
-    e ≡ entry_at w (entries_at + entry_words * (m - 1)) → (label ≡ e.label → ⊥) →
-    end ≡ last_end (entries_from w entries_at m) → (ltb most (end + len) ≡ true → EndsPast label len most m w)
-past_behind label len most m w e end some is other at past = record {
-  some = omega arith;
-  other = λ same. other (same ∙ ap (λ (x : Entry). x.label) (sym is));
-  past = omega (arith, at, ltb-true most (end + len) past);
-}
 
 -- ---- the last entry, where it stays
 

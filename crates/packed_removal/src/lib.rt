@@ -29,10 +29,7 @@ fn ends_past(words: &[u64], entries: usize, label: u64, len: usize, most: usize)
         return false;
     }
     let last = entry_at(words, HEADER_WORDS + ENTRY_WORDS * (entries - 1));
-    if label == last.label {
-        return false;
-    }
-    most < (last_end(words, entries) as usize) + len
+    label != last.label && most < (last_end(words, entries) as usize) + len
 }
 
 // Removes what the plan removes. Where one template goes alone, and it is certain that a body of this length does not
