@@ -12,7 +12,6 @@ use Rattle.config.proofs.Lists.{All, all_both}
 use Rattle.table.specs.declared.Entry.{Entry}
 use Rattle.table.proofs.Facts.{Placed}
 use Rattle.table_entries.specs.declared.StayTest.{StayTest}
-use Rattle.table_entries.specs.Stays.{ages}
 use Rattle.table_entries.specs.Sums.{sum_most, summed}
 use Rattle.table_entries.proofs.LabelSums.{zeros, summed_label}
 use Rattle.table_entries.proofs.Lengths.{label_bytes_most, label_count_most}
@@ -26,7 +25,7 @@ use Rattle.offer_plan.specs.Plan.{live_test}
 
 -- whether a body of a label is not expired, or not of an aged label
 abbrev pub unaged : StayTest → ℕ → Body → Bool
-unaged q k x = not (ages q.aged k && expired q.ttl q.clock x)
+unaged q k x = not ((q.all || eqb q.label k) && expired q.ttl q.clock x)
 
 module _ (b : List ℕ) (k : ℕ) where
   -- where no body is too large, only expired ones go

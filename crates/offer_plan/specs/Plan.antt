@@ -1,7 +1,6 @@
 -- What an offer decides before anything is written: the model's plan (cache_model, proofs/Plans.antt), read off the
 -- records and the live bodies of each label.
-use Rattle.std.specs.Prelude.{Option, Some, None}
-use Rattle.std.specs.Prelude.{◌≡◌, List, [], ◌∷◌, Bool, true, false, not, ◌&&◌, cond, ℕ, ◌+◌, ◌≤◌, ◌<◌, eqb, leb, ltb, length, get_or, set, take, drop, replicate}
+use Rattle.std.specs.Prelude.{Option, Some, None, ◌≡◌, List, [], ◌∷◌, Bool, true, false, not, ◌&&◌, cond, ℕ, ◌+◌, ◌≤◌, ◌<◌, eqb, leb, ltb, length, get_or, set, take, drop, replicate}
 use Rattle.config.specs.declared.PendingFlowsConfig.{PendingFlowsConfig}
 use Rattle.config.proofs.Lists.{All}
 use Rattle.table.specs.declared.Entry.{Entry}
@@ -28,7 +27,8 @@ abbrev pub live_test : Option ℕ → ℕ → StayTest
 live_test ttl clock = record {
   ttl = ttl;
   clock = clock;
-  aged = None;
+  all = true;
+  label = 1024;
   max_size = 18446744073709551615;
 }
 

@@ -2,6 +2,7 @@
 ghost use Rattle.std.specs.Prelude.{◌≡◌};
 ghost use Rattle.offer_plan.specs.Plan.{live_test};
 
+use table::LABELS;
 use table_entries::StayTest;
 
 // The test by which bodies that are not expired stay.
@@ -11,7 +12,8 @@ pub fn live_test(ttl: Option<u64>, clock: u64) -> StayTest
     StayTest {
         ttl,
         clock,
-        aged: None,
+        all: true,
+        label: LABELS as u64,
         max_size: u64::MAX,
     }
 }

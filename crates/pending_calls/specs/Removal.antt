@@ -1,6 +1,5 @@
 -- A removal: entries are swept, records closed. It is decided before, by a test and by how many bodies are skipped.
-use Rattle.std.specs.Prelude.{Option, Some, None}
-use Rattle.std.specs.Prelude.{◌≡◌, false, List, ℕ, ◌+◌, ◌*◌, ◌≤◌, ◌<◌, length, get_or, set, replicate, take, drop}
+use Rattle.std.specs.Prelude.{Option, None, ◌≡◌, false, List, ℕ, ◌+◌, ◌*◌, ◌≤◌, ◌<◌, length, get_or, set, replicate, take, drop}
 use Rattle.config.specs.Limits.{record_words}
 use Rattle.config.proofs.Lists.{All}
 use Rattle.table.specs.declared.Entry.{Entry}
@@ -19,7 +18,8 @@ abbrev pub unexpired : Option ℕ → ℕ → ℕ → StayTest
 unexpired ttl clock label = record {
   ttl = ttl;
   clock = clock;
-  aged = Some label;
+  all = false;
+  label = label;
   max_size = 18446744073709551615;
 }
 

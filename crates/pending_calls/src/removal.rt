@@ -33,7 +33,8 @@ pub fn label_test(ttl: Option<u64>, clock: u64, label: u64) -> StayTest
     StayTest {
         ttl,
         clock,
-        aged: Some(label),
+        all: false,
+        label,
         max_size: u64::MAX,
     }
 }

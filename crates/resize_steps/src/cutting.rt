@@ -18,7 +18,8 @@ fn small_enough(config: PendingFlowsConfig) -> StayTest
     StayTest {
         ttl: None,
         clock: 0,
-        aged: Some(LABELS as u64),
+        all: false,
+        label: LABELS as u64,
         max_size: config.max_entry_size_bytes as u64,
     }
 }

@@ -11,6 +11,6 @@ use table::Entry;
 pub fn stays(test: StayTest, entry: Entry) -> bool
     ensures { result ≡ stays test entry }
 {
-    let ages = test.aged.is_none_or(|label| label == entry.label);
-    entry.len <= test.max_size && !(ages && is_expired(test.ttl, test.clock, entry.clock))
+    let aged = test.all || test.label == entry.label;
+    entry.len <= test.max_size && !(aged && is_expired(test.ttl, test.clock, entry.clock))
 }
