@@ -58,17 +58,17 @@ module _ {w : List ℕ} {label entries bytes missing left p : ℕ}
         let n = rw (eq-eqb label e.label h) at next in
         sym (le-leb bytes all (omega (arith, inv.rest)))
 
-    pub fewer_missing : label ≡ e.label → e.len < missing →
-        BytesSought w label entries bytes (missing - e.len) (left - 1) (p + entry_words)
-    fewer_missing h more =
-        let n = rw (eq-eqb label e.label h) at next in
-        record { within = omega (arith, inv.within); rest = omega (arith, inv.rest) }
+    module _ {left' p' : ℕ} (count : left' ≡ left - 1) (place : p' ≡ p + entry_words) where
+      pub fewer_missing : label ≡ e.label → e.len < missing →
+          BytesSought w label entries bytes (missing - e.len) left' p'
+      fewer_missing h more =
+          let n = rw (eq-eqb label e.label h) at next in
+          rw (count, place) (record { within = omega (arith, inv.within); rest = omega (arith, inv.rest) })
 
-    pub still_missing : (label ≡ e.label → ⊥) →
-        BytesSought w label entries bytes missing (left - 1) (p + entry_words)
-    still_missing h =
-        let n = rw (ne_eqb label e.label h) at next in
-        record { within = omega (arith, inv.within); rest = omega (arith, inv.rest) }
+      pub still_missing : (label ≡ e.label → ⊥) → BytesSought w label entries bytes missing left' p'
+      still_missing h =
+          let n = rw (ne_eqb label e.label h) at next in
+          rw (count, place) (record { within = omega (arith, inv.within); rest = omega (arith, inv.rest) })
 
 -- the first record's, by its label
 pub first_reached : (rs : List TemplateRecord) (es : List Entry) (k bytes : ℕ) (t : Bool) → k ≡ first_label rs →

@@ -24,18 +24,14 @@ fn label_reaches(words: &[u64], entries: usize, label: u64, least: u64) -> bool
     ensures { result ≡ leb least (lens_of label (entries_from words.now entries_at entries)) }
 {
     let mut missing = least;
-    let mut left = entries;
-    let mut p = HEADER_WORDS;
-    while left > 0 {
-        let entry = entry_at(words, p);
+    for i in 0..entries {
+        let entry = entry_at(words, HEADER_WORDS + ENTRY_WORDS * i);
         if label == entry.label {
             if missing <= entry.len {
                 return true;
             }
             missing -= entry.len;
         }
-        left -= 1;
-        p += ENTRY_WORDS;
     }
     missing == 0
 }
