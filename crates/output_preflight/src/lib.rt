@@ -60,22 +60,24 @@ pub struct Figures {
 }
 
 // The numbers of an answer.
-pub fn answer_figures(answer: Result<PendingOutputPreflight, Refusal>) -> Figures
-    ensures { result ≡ figures_of (answer_of answer) }
-{
-    match answer {
-        Ok(cost) => Figures {
-            number: 0,
-            values: cost.field_values.0 as u64,
-            payload: cost.field_payload_bytes.0 as u64,
-            remainder: cost.remainder_len as u64,
-        },
-        Err(refusal) => Figures {
-            number: u32::from(refusal) as u64,
-            values: 0,
-            payload: 0,
-            remainder: 0,
-        },
+impl From<Result<PendingOutputPreflight, Refusal>> for Figures {
+    ghost from_gives = { λ answer figures. figures ≡ figures_of (answer_of answer) };
+
+    fn from(answer: Result<PendingOutputPreflight, Refusal>) -> Self {
+        match answer {
+            Ok(cost) => Self {
+                number: 0,
+                values: cost.field_values.0 as u64,
+                payload: cost.field_payload_bytes.0 as u64,
+                remainder: cost.remainder_len as u64,
+            },
+            Err(refusal) => Self {
+                number: u32::from(refusal) as u64,
+                values: 0,
+                payload: 0,
+                remainder: 0,
+            },
+        }
     }
 }
 

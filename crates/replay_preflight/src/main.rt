@@ -7,7 +7,7 @@
 ghost use Rattle.std.specs.Prelude.{◌≡◌};
 ghost use Rattle.replay_preflight.specs.Same.{same_figures};
 
-use output_preflight::{Figures, answer_figures};
+use output_preflight::Figures;
 use recorded::{BUFFER, BUFFERS, Tally, fill, move_to_front, next_number, whole_lines};
 use wire::Reading;
 
@@ -73,7 +73,7 @@ fn run_preflight(
     let (Some(body), Some(widths)) = (body.get(..body_len), widths.get(..fields)) else {
         return no_room();
     };
-    answer_figures(output_preflight::preflight(body, widths, reading_of(reading), limit as usize))
+    Figures::from(output_preflight::preflight(body, widths, reading_of(reading), limit as usize))
 }
 
 // No answer has this number: the row differs.
