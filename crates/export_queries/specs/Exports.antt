@@ -1,4 +1,7 @@
 -- How the cache's calls cross to C: a number, and values that are written on success only. Opening and the queries.
+use Rattle.std.specs.Prelude.{Ok, Err}
+use Rattle.pending_handed_out.specs.declared.BodyPlace.{BodyPlace}
+use Rattle.pending_handed_out.specs.declared.PlaceRefusal.{PlaceRefusal}
 use Rattle.std.specs.Prelude.{None, Result, ⊤}
 use Rattle.config.specs.declared.ConfigRefusal.{ConfigRefusal}
 use Rattle.std.specs.Prelude.{◌≡◌, cond, List, [], ◌∷◌, ℕ}
@@ -12,8 +15,6 @@ use Rattle.pending_flows.specs.View.{Areas, view}
 use Rattle.pending_flows.specs.Opening.{Opens, opening_in}
 use Rattle.pending_queries.specs.Queries.{Asks, asked}
 use Rattle.pending_handed_out.specs.HandedOut.{PlacesHandedOut, place_answer}
-use Rattle.pending_handed_out.specs.declared.PlaceAnswer.{PlaceAnswer}
-use Rattle.pending_handed_out.specs.declared.PlaceAnswer.TheVariants as Place
 
 -- limits as numbers, in document 01's order; `has` is 0 where there is no TTL
 abbrev pub limits_from : (t b e m has ttl : ℕ) → PendingFlowsConfig
@@ -83,16 +84,16 @@ abbrev pub ExportsFigures : Areas → ℕ → Areas → (vs vs' : List ℕ) → 
 ExportsFigures a r a' vs vs' = ExportsQuery (λ c. tells (figures c)) a r a' vs vs'
 
 -- place and length; unchanged on a refusal
-abbrev pub exported_place : PlaceAnswer → List ℕ → List ℕ
-exported_place (Place.At p) vs = p.place ∷ p.len ∷ []
-exported_place (Place.Refused n) vs = vs
+abbrev pub exported_place : Result BodyPlace PlaceRefusal → List ℕ → List ℕ
+exported_place (Ok p) vs = p.place ∷ p.len ∷ []
+exported_place (Err n) vs = vs
 
-pub record ExportedPlace (answer : PlaceAnswer) (r : ℕ) (vs vs' : List ℕ) : Type 0 where
+pub record ExportedPlace (answer : Result BodyPlace PlaceRefusal) (r : ℕ) (vs vs' : List ℕ) : Type 0 where
   pub returned : r ≡ exported_number (place_answer answer)
   pub written : vs' ≡ exported_place answer vs
 
 -- The place is free: the values are those of an answer that keeps the call's promise.
 pub record ExportsPlace (k : ℕ) (a : Areas) (r : ℕ) (a' : Areas) (vs vs' : List ℕ) : Type 0 where
-  pub answer : PlaceAnswer
+  pub answer : Result BodyPlace PlaceRefusal
   pub promise : PlacesHandedOut a k answer a'
   pub exported : ExportedPlace answer r vs vs'

@@ -1,10 +1,10 @@
 // Limits as numbers, and opening a cache with them.
 ghost use Rattle.std.specs.Prelude.{◌≡◌};
-ghost use Rattle.config.specs.Limits.{answer_number};
 ghost use Rattle.table.specs.Layout.{ttl_of};
 ghost use Rattle.pending_flows.specs.View.{areas_of};
 ghost use Rattle.export_queries.specs.Exports.{limits_from, ExportsValidate, ExportsOpen};
 
+use super::numbers::number_of;
 use config::PendingFlowsConfig;
 
 // No TTL where `has_ttl` is 0.
@@ -36,16 +36,6 @@ pub fn limits_from(
     }
 }
 
-// The number that limits are refused with, or 0.
-fn config_answer_number(answer: Result<(), ConfigRefusal>) -> u32
-    ensures { result ≡ answer_number answer }
-{
-    match answer {
-        Ok(()) => 0,
-        Err(refusal) => config::config_number(refusal),
-    }
-}
-
 // Whether a cache can be opened with these limits in areas of these lengths: 0, or 1 to 5.
 pub fn validate_config(
     words_len: usize,
@@ -66,7 +56,7 @@ pub fn validate_config(
         0,
         0,
     );
-    config_answer_number(config::validate_config(limits, bytes_len, words_len))
+    number_of(config::validate_config(limits, bytes_len, words_len))
 }
 
 // Opens an empty cache in areas with any content: 0, or 1 to 5 with nothing changed.
@@ -92,5 +82,5 @@ pub fn open(
         has_ttl,
         ttl,
     );
-    config_answer_number(pending_flows::open(limits, words, bytes))
+    number_of(pending_flows::open(limits, words, bytes))
 }

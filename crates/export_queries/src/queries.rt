@@ -2,27 +2,23 @@
 ghost use Rattle.std.specs.Prelude.{◌≡◌, [], ◌∷◌};
 ghost use Rattle.pending_flows.specs.View.{areas_of};
 ghost use Rattle.pending_queries.specs.Queries.{accept_answer, figures_answer};
-ghost use Rattle.pending_handed_out.specs.HandedOut.{place_number};
 ghost use Rattle.export_queries.specs.Exports.{Exported, ExportedPlace};
 ghost use Rattle.export_queries.specs.Exports.{ExportsWouldAccept, ExportsFigures, ExportsPlace};
 
-use pending_handed_out::{PlaceAnswer, PlaceRefusal};
-use pending_queries::{AcceptAnswer, FiguresAnswer};
+use pending_handed_out::{BodyPlace, PlaceRefusal};
+use pending_queries::CacheFigures;
+use table::Damaged;
 
 // Answers the number, and writes 1 for yes or 0 for no on success.
-fn export_accepts(answer: AcceptAnswer, accepts: &mut u64) -> u32
+fn export_accepts(answer: Result<bool, Damaged>, accepts: &mut u64) -> u32
     ensures { Exported (accept_answer answer) result (accepts.old ∷ []) (accepts.new ∷ []) }
 {
     match answer {
-        AcceptAnswer::Yes => {
-            *accepts = 1;
+        Ok(yes) => {
+            *accepts = yes as u64;
             0
         }
-        AcceptAnswer::No => {
-            *accepts = 0;
-            0
-        }
-        AcceptAnswer::Damaged => 28,
+        Err(damaged) => damaged.into(),
     }
 }
 
@@ -45,11 +41,11 @@ pub fn would_accept(
 }
 
 // Answers the number, and writes the six figures on success.
-fn export_figures(answer: FiguresAnswer, figures: &mut [u64; 6]) -> u32
+fn export_figures(answer: Result<CacheFigures, Damaged>, figures: &mut [u64; 6]) -> u32
     ensures { Exported (figures_answer answer) result figures.old figures.new }
 {
     match answer {
-        FiguresAnswer::At(found) => {
+        Ok(found) => {
             *figures = [
                 found.templates,
                 found.bodies,
@@ -60,7 +56,7 @@ fn export_figures(answer: FiguresAnswer, figures: &mut [u64; 6]) -> u32
             ];
             0
         }
-        FiguresAnswer::Damaged => 28,
+        Err(damage) => damage.into(),
     }
 }
 
@@ -72,28 +68,16 @@ pub fn figures(words: &[u64], bytes: &[u8], figures: &mut [u64; 6]) -> u32
     export_figures(pending_queries::take_figures(words, bytes), figures)
 }
 
-// Document 01's number where there is no place.
-fn place_refusal_number(refusal: PlaceRefusal) -> u32
-    ensures { result ≡ place_number refusal }
-{
-    match refusal {
-        PlaceRefusal::NotHandedOut => 27,
-        PlaceRefusal::Damaged => 28,
-    }
-}
-
 // Answers the number, and writes place and length on success.
-fn export_place(answer: PlaceAnswer, place: &mut [u64; 2]) -> u32
+fn export_place(answer: Result<BodyPlace, PlaceRefusal>, place: &mut [u64; 2]) -> u32
     ensures { ExportedPlace answer result place.old place.new }
 {
     match answer {
-        PlaceAnswer::At(found) => {
-            let at = found.place;
-            let len = found.len;
-            *place = [at as u64, len as u64];
+        Ok(found) => {
+            *place = [found.place as u64, found.len as u64];
             0
         }
-        PlaceAnswer::Refused(refusal) => place_refusal_number(refusal),
+        Err(refusal) => refusal.into(),
     }
 }
 

@@ -1,6 +1,7 @@
 use mathlib.Core.Path.{◌∙◌}
+use Rattle.export_queries.proofs.Exports.{limits_number_is}
 use Rattle.export_queries.proofs.opening.validate_config.Goals as goal
 
 pub returns : goal.returns
 returns c = rw c.limits_from-limits.ensures at
-    (c.config_answer_number.ensures ∙ c.validate_config.ensures)
+    (limits_number_is _ c.number_of.ensures ∙ c.validate_config.ensures)
