@@ -1,5 +1,8 @@
 -- Demand 3 of document 01: every run of the code goes with the history account.
 -- Assumes nothing.
+use Rattle.std.proofs.Common.{Result, Ok, Err}
+use Rattle.std.specs.Prelude.{⊤}
+use Rattle.pending_offer.specs.declared.offering.OfferRefusal.{OfferRefusal}
 use mathlib.Core.Path.{◌≡◌, refl, sym, ap, ◌∙◌, subst}
 use mathlib.Core.List.{List, [], ◌∷◌, map}
 use mathlib.Core.Bool.{true}
@@ -19,8 +22,6 @@ use Rattle.history.specs.Claim.{unnumbered, OpeningPromised, Linked, Run, Accoun
 use Rattle.history.proofs.Theorem.{every_run_accounted}
 use Rattle.pending_flows.specs.View.{Areas, view}
 use Rattle.pending_queries.specs.Queries.{Asks}
-use Rattle.pending_offer.specs.declared.offering.OfferAnswer.{OfferAnswer}
-use Rattle.pending_offer.specs.declared.offering.OfferAnswer.TheVariants as Answered
 use Rattle.pending_offer.specs.Promises.{Offers, offer_answer}
 use Rattle.code_history.specs.Runs.{Step, Steps, Ran}
 use Rattle.code_history.specs.Claim.{CodeAccounted}
@@ -47,9 +48,9 @@ refusals_unchanged : (os : List Opening) {a a' : Areas} {rs : List Answer} → S
 refusals_unchanged [] Steps.none = refl
 refusals_unchanged (o ∷ os) (Steps.next s l) = refusals_unchanged os l ∙ refused_unchanged s
 
-cached_only : (r : OfferAnswer) → offer_answer r ≡ done → r ≡ Answered.Cached
-cached_only Answered.Cached e = refl
-cached_only (Answered.Refused n) e = cc
+cached_only : (r : Result ⊤ OfferRefusal) → offer_answer r ≡ done → r ≡ Ok tt
+cached_only (Ok tt) e = refl
+cached_only (Err n) e = cc
 
 -- ---- the theorem
 
@@ -101,9 +102,9 @@ module _ (h : History) (run : Ran h) where
   holds : view run.last ≡ some (unnumbered end)
   holds = view_read run.last accounted.well_formed ∙ ap some accounted.reads
 
-  yes_binds_lem : (i now : ℕ) (bytes : List ℕ) {a a' : Areas} {r : OfferAnswer}
+  yes_binds_lem : (i now : ℕ) (bytes : List ℕ) {a a' : Areas} {r : Result ⊤ OfferRefusal}
       → Asks (λ c. says (would_accept i (length bytes) now c)) run.last (says true) a → Offers i bytes now a r a'
-      → r ≡ Answered.Cached
+      → r ≡ Ok tt
   unfolding does
   yes_binds_lem i now bytes {r = r} p q =
       cached_only r

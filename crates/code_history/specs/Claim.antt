@@ -1,5 +1,7 @@
 -- What is claimed of every run of the code (demand 3 of document 01).
-use Rattle.std.specs.Prelude.{◌≡◌, ℕ, ◌≤◌, ◌<◌, length, take, drop}
+use Rattle.std.specs.Prelude.{Result, Ok, ⊤}
+use Rattle.pending_offer.specs.declared.offering.OfferRefusal.{OfferRefusal}
+use Rattle.std.specs.Prelude.{◌≡◌, true, ℕ, ◌≤◌, ◌<◌, length, take, drop}
 use mathlib.Core.List.{List, ◌∷◌, ◌++◌, Memᴰ as Member}
 use Rattle.std.proofs.Math.Option.{some}
 use Rattle.config.specs.Limits.{config_number}
@@ -10,13 +12,9 @@ use Rattle.cache_model.specs.Queries.{would_accept, handed_out}
 use Rattle.history.specs.Account.{History, account_of, answers_of}
 use Rattle.history.specs.Claim.{unnumbered, offers_in, Fates}
 use Rattle.pending_flows.specs.View.{Areas, view}
-use Rattle.pending_queries.specs.declared.AcceptAnswer.TheVariants as Accept
 use Rattle.pending_queries.specs.Queries.{Asks, accept_answer}
 use Rattle.pending_handed_out.specs.declared.BodyPlace.{BodyPlace}
-use Rattle.pending_handed_out.specs.declared.PlaceAnswer.TheVariants as Place
 use Rattle.pending_handed_out.specs.HandedOut.{PlacesHandedOut}
-use Rattle.pending_offer.specs.declared.offering.OfferAnswer.{OfferAnswer}
-use Rattle.pending_offer.specs.declared.offering.OfferAnswer.TheVariants as Offer
 use Rattle.pending_offer.specs.Promises.{Offers}
 use Rattle.code_history.specs.Runs.{opening_of, Ran}
 
@@ -42,9 +40,9 @@ pub record CodeAccounted (h : History) (run : Ran h) : Type 0 where
   -- and `pending_dropped` counts the drops: the place of each in the list is its own unit
   pub dropped : offers_in h.events < counter_most → dropped_word run.last.words ≡ length (account_of h).drops
   -- where `would_accept` then says yes, an offer of any body of that id and length at that clock reading is accepted
-  pub yes_binds : (i now : ℕ) (bytes : List ℕ) {a a' : Areas} {r : OfferAnswer}
-      → Asks (λ c. says (would_accept i (length bytes) now c)) run.last (accept_answer Accept.Yes) a
-      → Offers i bytes now a r a' → r ≡ Offer.Cached
+  pub yes_binds : (i now : ℕ) (bytes : List ℕ) {a a' : Areas} {r : Result ⊤ OfferRefusal}
+      → Asks (λ c. says (would_accept i (length bytes) now c)) run.last (accept_answer (Ok true)) a
+      → Offers i bytes now a r a' → r ≡ Ok tt
   -- where a place is then answered, the byte area holds there the account's handed-out body of that number
-  pub placed : (k : ℕ) (p : BodyPlace) {a : Areas} → PlacesHandedOut run.last k (Place.At p) a
+  pub placed : (k : ℕ) (p : BodyPlace) {a : Areas} → PlacesHandedOut run.last k (Ok p) a
       → take p.len (drop p.place run.last.bytes) ≡ (handed_out k (account_of h).cache).bytes

@@ -1,6 +1,14 @@
 -- Lists of calls as the code runs them: each step is related by the record that the function's `ensures` cites.
+use Rattle.std.specs.Prelude.{Result, ⊤}
+use Rattle.pending_handed_out.specs.declared.BodyPlace.{BodyPlace}
+use Rattle.pending_queries.specs.declared.CacheFigures.{CacheFigures}
+use Rattle.table.specs.declared.Damaged.{Damaged}
+use Rattle.pending_offer.specs.declared.offering.OfferRefusal.{OfferRefusal}
+use Rattle.pending_handed_out.specs.declared.PlaceRefusal.{PlaceRefusal}
+use Rattle.pending_restore.specs.declared.PutBackRefusal.{PutBackRefusal}
+use Rattle.pending_resize.specs.declared.resizing.ResizeRefusal.{ResizeRefusal}
 use Rattle.std.specs.Prelude.{Ok, Err}
-use Rattle.std.specs.Prelude.{◌≡◌, List, [], ◌∷◌, map, ℕ, length}
+use Rattle.std.specs.Prelude.{◌≡◌, Bool, List, [], ◌∷◌, map, ℕ, length}
 use Rattle.config.specs.declared.PendingFlowsConfig.{PendingFlowsConfig}
 use Rattle.config.specs.declared.ConfigRefusal.{ConfigRefusal}
 use Rattle.cache_model.specs.Cache.{Answer, says, shows, tells}
@@ -10,20 +18,12 @@ use Rattle.cache_model.specs.History.{PlaceHandedOut, TakeFigures}
 use Rattle.history.specs.Account.{Opening, Event, call, refused_opening, History}
 use Rattle.pending_flows.specs.View.{Areas}
 use Rattle.pending_flows.specs.Opening.{Opens, opening_answer}
-use Rattle.pending_queries.specs.declared.AcceptAnswer.{AcceptAnswer}
-use Rattle.pending_queries.specs.declared.FiguresAnswer.{FiguresAnswer}
 use Rattle.pending_queries.specs.Queries.{Asks, accept_answer, figures_answer}
-use Rattle.pending_handed_out.specs.declared.PlaceAnswer.{PlaceAnswer}
 use Rattle.pending_handed_out.specs.HandedOut.{PlacesHandedOut, ReadsHandedOut, place_answer}
-use Rattle.pending_calls.specs.declared.clearing.ClearAnswer.{ClearAnswer}
 use Rattle.pending_calls.specs.Promises.{Clears, clear_answer}
-use Rattle.pending_drain.specs.declared.draining.DrainAnswer.{DrainAnswer}
 use Rattle.pending_drain.specs.Promises.{Drains, drain_answer}
-use Rattle.pending_restore.specs.declared.PutBackAnswer.{PutBackAnswer}
 use Rattle.pending_restore.specs.Promises.{PutsBack, put_back_answer}
-use Rattle.pending_offer.specs.declared.offering.OfferAnswer.{OfferAnswer}
 use Rattle.pending_offer.specs.Promises.{Offers, offer_answer}
-use Rattle.pending_resize.specs.declared.resizing.ResizeAnswer.{ResizeAnswer}
 use Rattle.pending_resize.specs.Promises.{Resizes, resize_answer}
 
 -- an opening with these limits in these areas: the account is given their lengths, and nothing of their content
@@ -33,19 +33,19 @@ opening_of limits a = record { limits = limits; bytes = length a.bytes; words = 
 -- What a function promised: a are the areas before the call and a' after it, r is what it returned. The event is the
 -- call with its arguments, and the answer is document 01's for r.
 pub data Step (a a' : Areas) : Event → Answer → Type 0 where
-  offers : {i : ℕ} {bytes : List ℕ} {now : ℕ} (r : OfferAnswer) → Offers i bytes now a r a'
+  offers : {i : ℕ} {bytes : List ℕ} {now : ℕ} (r : Result ⊤ OfferRefusal) → Offers i bytes now a r a'
       → Step a a' (call (Offer i bytes now)) (offer_answer r)
-  drains : {i now : ℕ} (r : DrainAnswer) → Drains i now a r a' → Step a a' (call (Drain i now)) (drain_answer r)
-  puts_back : {i n : ℕ} (r : PutBackAnswer) → PutsBack i n a r a' → Step a a' (call (PutBack i n)) (put_back_answer r)
+  drains : {i now : ℕ} (r : Result ℕ Damaged) → Drains i now a r a' → Step a a' (call (Drain i now)) (drain_answer r)
+  puts_back : {i n : ℕ} (r : Result ⊤ PutBackRefusal) → PutsBack i n a r a' → Step a a' (call (PutBack i n)) (put_back_answer r)
   -- beside the limits, the account is given the lengths of the areas
-  resizes : {l : PendingFlowsConfig} (r : ResizeAnswer) → Resizes l a r a'
+  resizes : {l : PendingFlowsConfig} (r : Result ℕ ResizeRefusal) → Resizes l a r a'
       → Step a a' (call (Resize l (length a.bytes) (length a.words))) (resize_answer r)
-  clears : (r : ClearAnswer) → Clears a r a' → Step a a' (call Clear) (clear_answer r)
-  asks : {i len now : ℕ} (r : AcceptAnswer) → Asks (λ c. says (would_accept i len now c)) a (accept_answer r) a'
+  clears : (r : Result ⊤ Damaged) → Clears a r a' → Step a a' (call Clear) (clear_answer r)
+  asks : {i len now : ℕ} (r : Result Bool Damaged) → Asks (λ c. says (would_accept i len now c)) a (accept_answer r) a'
       → Step a a' (call (WouldAccept i len now)) (accept_answer r)
   reads : {k : ℕ} (bs : List ℕ) → ReadsHandedOut a k bs a' → Step a a' (call (ReadHandedOut k)) (shows bs)
-  places : {k : ℕ} (r : PlaceAnswer) → PlacesHandedOut a k r a' → Step a a' (call (PlaceHandedOut k)) (place_answer r)
-  takes_figures : (r : FiguresAnswer) → Asks (λ c. tells (figures c)) a (figures_answer r) a'
+  places : {k : ℕ} (r : Result BodyPlace PlaceRefusal) → PlacesHandedOut a k r a' → Step a a' (call (PlaceHandedOut k)) (place_answer r)
+  takes_figures : (r : Result CacheFigures Damaged) → Asks (λ c. tells (figures c)) a (figures_answer r) a'
       → Step a a' (call TakeFigures) (figures_answer r)
   -- `open` was called and refused the limits
   refuses_opening : {l : PendingFlowsConfig} (n : ConfigRefusal) → Opens l a (Err n) a'
