@@ -15,13 +15,13 @@ pub loop-i-preserved : goal.loop-i-preserved
 loop-i-preserved c =
     elim c.if-label-entry.branch [
       | then-label-entry+else-missing-entry v ↦
-        rw v.missing-is
-            (fewer_missing c.loop-i.invariant _ (omega arith) c.entry_at-entry.ensures (omega arith) (omega arith)
-            v.if-label-entry.true v.if-missing-entry.false)
+          rw v.missing-is
+          (fewer_missing c.loop-i.invariant _ (omega arith) c.entry_at-entry.ensures (omega arith) (omega arith)
+          v.if-label-entry.true v.if-missing-entry.false)
       | else-label-entry v ↦
-        rw v.missing-is
-            (still_missing c.loop-i.invariant _ (omega arith) c.entry_at-entry.ensures (omega arith) (omega arith)
-            v.if-label-entry.false)
+          rw v.missing-is
+          (still_missing c.loop-i.invariant _ (omega arith) c.entry_at-entry.ensures (omega arith) (omega arith)
+          v.if-label-entry.false)
     ]
 
 pub returns : goal.returns
