@@ -96,7 +96,8 @@ fn run_input<R: Read, W: Write>(
     Ended::Reads
 }
 
-// An array whose length a proof knows.
+// An array whose length a proof knows: with a plain `[0; N]` in the generic `run`, what its callee asks of the lengths
+// stayed open.
 fn filled<T: Copy, const N: usize>(value: T) -> [T; N]
     ensures { N ≡ length result }
 {
