@@ -1,4 +1,6 @@
 -- What a line comes to, from what its calls promise. Assumes nothing.
+use Rattle.table.specs.declared.Damaged.{Damaged}
+use Rattle.pending_offer.specs.declared.offering.OfferRefusal.{OfferRefusal}
 use Rattle.std.proofs.Common.{Result, Ok, Err}
 use Rattle.std.specs.Prelude.{⊤}
 use mathlib.Core.Path.{◌≡◌, refl, sym, ap, ◌∙◌}
@@ -25,19 +27,16 @@ use Rattle.pending_flows.specs.View.{Areas, view}
 use Rattle.pending_flows.specs.Opening.{Opens}
 use Rattle.pending_queries.specs.Queries.{asked, figures_record, figures_answer}
 use Rattle.pending_queries.specs.declared.CacheFigures.{CacheFigures}
-use Rattle.pending_queries.specs.declared.FiguresAnswer.{FiguresAnswer}
-use Rattle.pending_queries.specs.declared.FiguresAnswer.TheVariants as Figured
 use Rattle.pending_calls.specs.Promises.{Performs}
 use Rattle.pending_offer.specs.Promises.{body_of, Offers, offer_answer}
-use Rattle.pending_offer.specs.declared.offering.OfferAnswer.{OfferAnswer}
 use Rattle.pendlist_rows.specs.declared.Outcome.{Outcome}
 use Rattle.pendlist_rows.specs.declared.Outcome.TheVariants.{Opened, Told, Bad}
 use Rattle.pendlist_calls.specs.Steps.{figure_of, row_of, row_after, call_step, step_of, Steps, RunsLine}
 
 -- The figures after a call.
-module _ (letter n : ℕ) (v : Option Cache) {r : FiguresAnswer}
+module _ (letter n : ℕ) (v : Option Cache) {r : Result CacheFigures Damaged}
     (answered : figures_answer r ≡ asked (λ c. tells (figures c)) v) where
-  pub row_told : {f : CacheFigures} → r ≡ Figured.At f → Told (row_of letter n (figures_record f)) ≡ row_after letter
+  pub row_told : {f : CacheFigures} → r ≡ Ok f → Told (row_of letter n (figures_record f)) ≡ row_after letter
       n v
   unfolding row_after
   row_told {f} e = by_view v answered
@@ -51,7 +50,7 @@ module _ (letter n : ℕ) (v : Option Cache) {r : FiguresAnswer}
           let y : figures_record f ≡ figures c = cc in
           ap (λ (g : Figures). Told (row_of letter n g)) y
 
-  pub no_row : r ≡ Figured.Damaged → Bad ≡ row_after letter n v
+  pub no_row : r ≡ Err (record {}) → Bad ≡ row_after letter n v
   unfolding row_after
   no_row e = by_view v answered
     where
@@ -102,8 +101,8 @@ module _ (opened : Bool) (line : List ℕ) {read wanted : Parsed Command} (parse
       rw is (record { outcome = refl; holds = refl })
 
 -- The body that is offered is the one that was filled, as long as the line says.
-pub filled_offered : (n : ℕ) {id now : ℕ} {body : List ℕ} {a a' : Areas} {r : OfferAnswer} → body ≡ ramp 0 n →
-    Offers id body now a r a' → Performs (offered id (body_of (ramp 0 n) now)) a (offer_answer r) a'
+pub filled_offered : (n : ℕ) {id now : ℕ} {body : List ℕ} {a a' : Areas} {r : Result ⊤ OfferRefusal} →
+    body ≡ ramp 0 n → Offers id body now a r a' → Performs (offered id (body_of (ramp 0 n) now)) a (offer_answer r) a'
 filled_offered n e done = rw e at done.performs
 
 pub length_offered : (id now n m : ℕ) {a a' : Areas} {x : Answer} → n ≡ m →
