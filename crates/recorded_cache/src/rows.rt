@@ -104,10 +104,12 @@ pub fn read_row(line: &[u8]) -> Row {
     let answer = read_numbers(line, arguments.next, 8);
     let whole = goes_on(line, answer.next);
     let listed = next_number(line, answer.next);
+    let args = arguments.values;
+    let told = answer.values;
     Row {
         call,
-        args: arguments.values,
-        told: answer.values,
+        args,
+        told,
         whole,
         listed: listed.value == 1,
         next: listed.next,

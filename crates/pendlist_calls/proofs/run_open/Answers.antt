@@ -1,9 +1,9 @@
+use Rattle.std.proofs.Common.{rules}
 use Rattle.pendlist_calls.proofs.Stepping.{open_taken, open_refused}
-use borrow.Author.Rules.{rules}
 use Rattle.pendlist_calls.proofs.run_open.Goals as goal
 
-pub returns-in_default : goal.returns-in_default
-returns-in_default c = search (open_refused, rules)
+pub returns-in-Ok : goal.returns-in-Ok
+returns-in-Ok c = search (open_taken, rules)
 
-pub returns : goal.returns
-returns c = search (open_taken, rules)
+pub returns-in-Err : goal.returns-in-Err
+returns-in-Err c = search (open_refused, rules)
