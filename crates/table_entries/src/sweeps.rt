@@ -7,7 +7,6 @@ ghost use Rattle.table_entries.specs.Sweep.{swept, Spends, put_entry, KeepsOnly}
 
 use super::StayTest;
 use super::stay::stays;
-use areas::move_four;
 use config::{ENTRY_WORDS, HEADER_WORDS};
 use table::{Entry, LABELS, entry_at};
 
@@ -47,7 +46,7 @@ pub fn move_entry(words: &mut [u64], from: usize, to: usize)
     requires { (from + entry_words ≤ length words.old) × (to + entry_words ≤ length words.old) }
     ensures { words.new ≡ put_entry words.old to (entry_at words.old from) }
 {
-    move_four(words, from, to);
+    put_entry(words, to, entry_at(words, from));
 }
 
 // Keeps of the entries those that stay and are not skipped, in order.
