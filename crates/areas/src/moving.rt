@@ -27,8 +27,8 @@ pub fn move_within<T: Copy>(area: &mut [T], from: usize, to: usize, len: usize)
 }
 
 // Moves as many elements as `block` holds. All are read before the first is written, so source and target may overlap;
-// and of both copies, with a local array for `block`, the compiler makes loads and stores or one call of the C library's
-// `memmove`, with no array (docs/DECISIONS.md).
+// and of both copies, with a local array for `block`, the compiler makes one call of the C library's `memmove`, with no
+// array, where the array is long (docs/DECISIONS.md).
 #[tactic(auto, using(crate::proofs::Moves::block_moved))]
 fn move_through<T: Copy>(area: &mut [T], from: usize, to: usize, block: &mut [T])
     requires { (from + length block.old ≤ length area.old) × (to + length block.old ≤ length area.old) }
@@ -39,7 +39,7 @@ fn move_through<T: Copy>(area: &mut [T], from: usize, to: usize, block: &mut [T]
     write_at(area, to, block);
 }
 
-// Moves four words: two loads and two stores of 16 bytes, where `copy_within` is a loop.
+// Moves four words.
 pub fn move_four(area: &mut [u64], from: usize, to: usize)
     requires { (from + 4 ≤ length area.old) × (to + 4 ≤ length area.old) }
     ensures { area.new ≡ moved from to 4 area.old }

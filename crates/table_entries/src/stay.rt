@@ -11,6 +11,11 @@ use table::Entry;
 pub fn stays(test: StayTest, entry: Entry) -> bool
     ensures { result ≡ stays test entry }
 {
-    let aged = test.all || test.label == entry.label;
-    entry.len <= test.max_size && !(aged && is_expired(test.ttl, test.clock, entry.clock))
+    if test.max_size < entry.len {
+        return false;
+    }
+    if !test.all && test.label != entry.label {
+        return true;
+    }
+    !is_expired(test.ttl, test.clock, entry.clock)
 }
