@@ -3,13 +3,14 @@
 // excess (0 none, 1 of the values, 2 of the payload) with its configured figure and its attempted sum.
 #![tactic(auto)]
 
-ghost use Rattle.std.specs.Prelude.{◌≡◌, MatchResult};
+ghost use Rattle.std.specs.Prelude.{◌≡◌};
 ghost use Rattle.output_budget.specs.Budget.{values_of_excess, told_of_exceeded, told_of_reserve};
 ghost use Rattle.output_limits.specs.Limits.{told_of_limits};
 ghost use Rattle.output_pending.specs.Pending.{told_of_materialize};
 ghost use Rattle.budget_words.specs.Words.{exceeded_of, budget_of, words_of, cost_of, preflight_by, report_by};
 ghost use Rattle.budget_words.specs.Words.{Answers};
 
+use answer_numbers::number_of;
 use output_budget::{DecodedOutputBudget, DecodedOutputLimit, OutputBudgetExceeded};
 use output_limits::{DecodedOutputLimits, LimitsRefusal};
 use output_pending::PendingOutputError;
@@ -135,7 +136,7 @@ pub fn export_reserve(answer: Result<(), OutputBudgetExceeded>, excess: &mut [u6
     if let Err(exceeded) = answer {
         *excess = excess_words(exceeded);
     }
-    answer_number(answer)
+    number_of(answer)
 }
 
 // Answers 0, and writes the excess where one was recorded.
@@ -146,18 +147,6 @@ pub fn export_exceeded(exceeded: Option<OutputBudgetExceeded>, excess: &mut [u64
         *excess = excess_words(recorded);
     }
     0
-}
-
-// The number of an answer that has no values: 0 where the call was done.
-pub fn answer_number<E>(answer: Result<(), E>) -> u32
-where
-    u32: From<E>,
-    ensures { MatchResult answer (λ _. result ≡ 0) (λ e. ⟦<u32 as From<E>>⟧.from_gives e result) }
-{
-    match answer {
-        Ok(()) => 0,
-        Err(error) => u32::from(error),
-    }
 }
 
 // Answers the number of a materializing, and writes the remainder's length on success.

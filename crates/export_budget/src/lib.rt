@@ -4,7 +4,8 @@
 
 ghost use Rattle.export_budget.specs.Budget.{ReservesIn, RollsBackIn, TellsRemaining, TellsExceeded, TakesIn};
 
-use budget_words::{answer_number, export_exceeded, export_reserve, read_budget, write_budget};
+use answer_numbers::number_of;
+use budget_words::{export_exceeded, export_reserve, read_budget, write_budget};
 use output_preflight::{FieldValues, PayloadBytes};
 
 // Reserves both counts: 0, or 23 or 24 with the excess written.
@@ -31,7 +32,7 @@ pub fn rollback(budget: &mut [u64; 7], values: u64, payload_bytes: u64) -> u32
     if answer.is_ok() {
         write_budget(b, budget);
     }
-    answer_number(answer)
+    number_of(answer)
 }
 
 // Writes what remains of both counts. Answers 0.

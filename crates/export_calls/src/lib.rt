@@ -6,7 +6,8 @@ ghost use Rattle.export_queries.specs.Exports.{limits_from};
 ghost use Rattle.export_calls.specs.Calls.{ExportsCache, ExportsDrain, ExportsPutBack, ExportsResize};
 ghost use Rattle.export_calls.specs.Calls.{ExportsClear};
 
-use export_queries::{limits_from, number_of, write_count};
+use answer_numbers::{number_of, write_count};
+use export_queries::limits_from;
 
 // Offers a body: 0, or 28, 6 or 20.
 pub fn cache(words: &mut [u64], bytes: &mut [u8], id: u16, body: &[u8], clock: u64) -> u32

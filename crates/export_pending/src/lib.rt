@@ -3,9 +3,8 @@
 
 ghost use Rattle.export_pending.specs.Pending.{FitsWhole, FitsRemaining, MaterializesIn};
 
-use budget_words::{
-    answer_number, export_materialize, read_budget, read_preflight, read_report, write_budget,
-};
+use answer_numbers::number_of;
+use budget_words::{export_materialize, read_budget, read_preflight, read_report, write_budget};
 
 // Whether a body can ever fit: 0, or 7 or 8.
 pub fn validate_pending_full_budget(budget: &[u64; 7], number: u32, cost: &[u64; 3]) -> u32
@@ -13,7 +12,7 @@ pub fn validate_pending_full_budget(budget: &[u64; 7], number: u32, cost: &[u64;
 {
     let b = read_budget(budget);
     let preflight = read_preflight(number, cost);
-    answer_number(output_pending::validate_pending_full_budget(b, preflight))
+    number_of(output_pending::validate_pending_full_budget(b, preflight))
 }
 
 // Whether a body fits what remains: 0, or 7, 8 or 22.
@@ -22,7 +21,7 @@ pub fn validate_pending_remaining(budget: &[u64; 7], number: u32, cost: &[u64; 3
 {
     let b = read_budget(budget);
     let preflight = read_preflight(number, cost);
-    answer_number(output_pending::validate_pending_remaining(b, preflight))
+    number_of(output_pending::validate_pending_remaining(b, preflight))
 }
 
 // Commits the cost where the body fits and the report agrees: 0 with the remainder's length written, or 7, 8 or 22.

@@ -4,7 +4,7 @@ ghost use Rattle.table.specs.Layout.{ttl_of};
 ghost use Rattle.pending_flows.specs.View.{areas_of};
 ghost use Rattle.export_queries.specs.Exports.{limits_from, ExportsValidate, ExportsOpen};
 
-use super::numbers::number_of;
+use answer_numbers::number_of;
 use config::PendingFlowsConfig;
 
 // No TTL where `has_ttl` is 0.

@@ -1,7 +1,8 @@
 // The calls of a recorded list, by their numbers there.
 #![tactic(auto)]
 
-use budget_words::{answer_number, export_exceeded, export_materialize, export_reserve};
+use answer_numbers::number_of;
+use budget_words::{export_exceeded, export_materialize, export_reserve};
 use output_budget::DecodedOutputBudget;
 use output_excess::{is_exceeded, take_exceeded};
 use output_limits::DecodedOutputLimits;
@@ -30,7 +31,7 @@ where
     u32: From<E>,
 {
     Told {
-        number: answer_number(answer),
+        number: number_of(answer),
         values: [0; 3],
     }
 }

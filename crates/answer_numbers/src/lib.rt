@@ -1,4 +1,6 @@
-// What an answer is as document 01's number, 0 on success.
+// An answer as document 01's number, 0 on success: one function for each shape of answer.
+#![tactic(auto)]
+
 ghost use Rattle.std.specs.Prelude.{◌≡◌, MatchResult};
 
 // The number of an answer without a value.
