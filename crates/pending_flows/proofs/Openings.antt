@@ -15,7 +15,7 @@ use Rattle.areas.specs.Overwrite.{overwritten}
 use Rattle.config.specs.declared.PendingFlowsConfig.{PendingFlowsConfig}
 use Rattle.config.specs.declared.ConfigRefusal.{ConfigRefusal}
 use Rattle.config.specs.declared.ConfigRefusal.TheVariants.{NoTemplates, NoEntries, EntrySize, TotalBytes, Areas}
-use Rattle.config.specs.Limits.{answer_number, refusal_number, config_number, header_words, words_needed, max_bodies}
+use Rattle.config.specs.Limits.{refusal_number, config_number, header_words, words_needed, max_bodies}
 use Rattle.config.proofs.Limits.{limits_say}
 use Rattle.table.specs.Layout.{ttl_of, limits_of}
 use Rattle.table.specs.Table.{entries_from, records_from, index_from}
