@@ -26,6 +26,7 @@ pub fn read_full<R: Read>(reader: &mut R, buffer: &mut [u8]) -> usize
     ensures taken { Consumes (R.remaining reader.old) (R.remaining reader.new) (take result buffer.new) }
 {
     let mut done: usize = 0;
+    // no `for`: it goes on by what each read brings
     while done < buffer.len() {
         let n = read_some(reader, &mut buffer[done..]);
         done += n;
