@@ -65,3 +65,16 @@ pub fn next_number(text: &[u8], at: usize) -> Number
     let start = first_digit(text, at);
     digits(text, start)
 }
+
+// Whether a text has a number at or after a place.
+pub fn goes_on(text: &[u8], at: usize) -> bool {
+    at < text.len() && first_digit(text, at) != text.len()
+}
+
+// The number at or after a place, if there is one.
+pub fn number_on(text: &[u8], at: usize) -> Option<Number> {
+    if goes_on(text, at) {
+        return Some(next_number(text, at));
+    }
+    None
+}

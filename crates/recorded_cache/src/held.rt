@@ -1,8 +1,7 @@
 // The list of a row against the areas, read here by docs/LAYOUT.md and not by the cache's own code.
 use super::bodies::same_bytes;
-use super::rows::goes_on;
 use pending_handed_out::{place_handed_out, read_handed_out};
-use recorded::{Number, next_number};
+use recorded::{next_number, number_on};
 
 // The offers whose length and clock reading are kept: lengths from word 0 on, clock readings from here on.
 pub const KEPT: usize = 256;
@@ -17,14 +16,6 @@ fn word(words: &[u64], from: usize, i: usize) -> u64 {
         .and_then(|rest| rest.get(i))
         .copied()
         .unwrap_or(0)
-}
-
-// The number at or after a place of the line, if there is one.
-fn number_on(line: &[u8], at: usize) -> Option<Number> {
-    if goes_on(line, at) {
-        return Some(next_number(line, at));
-    }
-    None
 }
 
 // Whether offer k was made since the opening, and is kept.

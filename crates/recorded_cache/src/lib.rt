@@ -9,4 +9,4 @@ mod rows;
 
 pub use calls::{Answered, run_call};
 pub use held::{KEPT, OFFERS, same_handed_out, same_templates};
-pub use rows::{Call, Row, goes_on, read_row};
+pub use rows::{Call, Row, read_row};

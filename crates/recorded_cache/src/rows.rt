@@ -2,7 +2,7 @@
 //     call arguments number value templates bodies bytes cached dropped handed listed list
 ghost use Rattle.std.specs.Prelude.{◌≤◌};
 
-use recorded::{first_digit, next_number};
+use recorded::{goes_on, next_number};
 
 // Up to eight numbers of a line, and where the line goes on.
 #[derive(Drop)]
@@ -89,11 +89,6 @@ fn argument_count(call: Option<Call>) -> usize
         Some(Call::Read) => 1,
         Some(Call::Clear) | None => 0,
     }
-}
-
-// Whether a line has a number at or after `at`.
-pub fn goes_on(line: &[u8], at: usize) -> bool {
-    at < line.len() && first_digit(line, at) != line.len()
 }
 
 // Reads the row of a line.

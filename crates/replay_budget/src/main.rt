@@ -10,7 +10,7 @@ use budget_words::write_budget;
 use calls::{Told, run_call};
 use output_budget::DecodedOutputBudget;
 use output_preflight::{FieldValues, PayloadBytes};
-use recorded::{BUFFER, BUFFERS, Tally, fill, move_to_front, next_number, whole_lines};
+use recorded::{BUFFER, BUFFERS, Tally, fill, goes_on, move_to_front, number_on, whole_lines};
 
 // The rows run so far, and the budget that the next call goes on with.
 #[derive(Clone, Copy)]
@@ -19,16 +19,19 @@ struct Replay {
     budget: DecodedOutputBudget,
 }
 
-// The numbers of a row.
-fn read_row(row: &[u8]) -> [u64; 19] {
+// The numbers of a row, if it has as many and no more.
+fn read_row(row: &[u8]) -> Option<[u64; 19]> {
     let mut numbers = [0; 19];
     let mut at = 0;
     for number in &mut numbers {
-        let read = next_number(row, at);
+        let read = number_on(row, at)?;
         *number = read.value;
         at = read.next;
     }
-    numbers
+    if goes_on(row, at) {
+        return None;
+    }
+    Some(numbers)
 }
 
 // Whether the answer and the budget after it are the recorded ones.
@@ -40,12 +43,19 @@ fn same(got: Told, budget: DecodedOutputBudget, row: &[u64; 19]) -> bool {
         && words.as_slice() == &row[12..]
 }
 
+// Makes a row's call, and answers whether all is as recorded; a row that is cut short or goes on differs.
+fn run_row(row: &[u8], budget: &mut DecodedOutputBudget) -> bool {
+    let Some(numbers) = read_row(row) else {
+        return false;
+    };
+    let got = run_call(&numbers, budget);
+    same(got, *budget, &numbers)
+}
+
 // Runs the rows of a text, a line each, and names those that differ.
 fn run_rows(rt: &impl Print, text: &[u8], replay: &mut Replay) {
     for row in text.split_inclusive(|byte| *byte == b'\n') {
-        let numbers = read_row(row);
-        let got = run_call(&numbers, &mut replay.budget);
-        let same = same(got, replay.budget, &numbers);
+        let same = run_row(row, &mut replay.budget);
         replay.tally = replay.tally.with_row(rt, same);
     }
 }

@@ -1,6 +1,7 @@
 // What a row has against the answer of its call and the areas after it.
 use pending_queries::{CacheFigures, take_figures};
-use recorded_cache::{Answered, Row, goes_on, same_handed_out, same_templates};
+use recorded::goes_on;
+use recorded_cache::{Answered, Row, same_handed_out, same_templates};
 
 // The part of a row that differs first.
 #[derive(Clone, Copy, PartialEq, Eq)]

@@ -8,7 +8,9 @@ ghost use Rattle.std.specs.Prelude.{◌≡◌};
 ghost use Rattle.replay_preflight.specs.Same.{same_figures};
 
 use output_preflight::Figures;
-use recorded::{BUFFER, BUFFERS, Tally, fill, move_to_front, next_number, whole_lines};
+use recorded::{
+    BUFFER, BUFFERS, Tally, fill, goes_on, move_to_front, next_number, number_on, whole_lines,
+};
 use wire::Reading;
 
 // The reading with a number of the list. No `TryFrom`: neither type is of this crate.
@@ -46,19 +48,21 @@ fn same_figures(a: Figures, b: Figures) -> bool
     a == b
 }
 
-// Whether an answer is the one recorded in a row from `at` on.
+// Whether an answer is the one recorded in a row from `at` on, and the row ends there.
 fn is_recorded(row: &[u8], at: usize, got: Figures) -> bool {
     let number = next_number(row, at);
     let values = next_number(row, number.next);
     let payload = next_number(row, values.next);
-    let remainder = next_number(row, payload.next);
+    let Some(remainder) = number_on(row, payload.next) else {
+        return false;
+    };
     let recorded = Figures {
         number: number.value,
         values: values.value,
         payload: payload.value,
         remainder: remainder.value,
     };
-    same_figures(got, recorded)
+    same_figures(got, recorded) && !goes_on(row, remainder.next)
 }
 
 // The preflight on the first bytes and widths of their rooms; a number of none where they are more than the room.
