@@ -2,7 +2,7 @@
 use mathlib.Core.Path.{◌≡◌, sym, ap, ◌∙◌}
 use mathlib.Core.Bool.{Bool}
 use mathlib.Core.List.{List, ◌++◌}
-use Prim.Native.Nat.{ℕ, ◌+◌, ◌*◌, ◌-◌, ◌≤◌}
+use Prim.Native.Nat.{ℕ, ◌+◌, ◌-◌, ◌≤◌}
 use native.Mathlib.Omega.{arith}
 use lib.ListN.{length, take, drop, length-drop}
 use lib.Seq.{length-take-le, take-take, take-add, take_at, drop_at}
@@ -12,11 +12,6 @@ use Rattle.pendlist_texts.specs.declared.TextDone.{TextDone}
 use Rattle.pendlist_texts.specs.Lists.{RunsText}
 use Rattle.pendlist_turns.specs.Turns.{turn_of, Ready}
 use Rattle.pendlist_buffer.specs.Buffer.{TakesTurn}
-
--- the rows of the buffer's first n bytes have room
-pub front_fits : (n : ℕ) (buffer out : List ℕ) → n ≤ length buffer → n ≤ 4096 → length out ≡ 438272 →
-    (length (take n buffer) ≤ 4096) × (107 * length (take n buffer) ≤ length out)
-front_fits n buffer out h few long = rw (length-take-le n buffer h) (omega arith, omega arith)
 
 -- what is left of the first n bytes, brought to the front
 left_moved : (buffer : List ℕ) (n ready : ℕ) → n ≤ length buffer → ready ≤ n →

@@ -178,17 +178,6 @@ module _ {numbers : List ℕ} {at i end : ℕ} {out₀ out : List ℕ} (inv : Nu
 
 pub ruleset putting = (none_put, one_put, all_put)
 
--- A letter, the numbers and a newline.
-pub row_put : (b at r : ℕ) (numbers : List ℕ) {out out' out'' : List ℕ} → at < length out → out' ≡ set out at b →
-    Puts (numbers_text numbers) (21 * length numbers) (at + 1) out' r out'' → r < length out'' →
-    Puts ((b ∷ []) ++ numbers_text numbers ++ (10 ∷ [])) (21 * length numbers + 2) at out (r + 1) (set out'' r 10)
-row_put b at r numbers {out} {out'} {out''} h is behind h' =
-    let letter : Puts (b ∷ []) 1 at out (at + 1) out' = rw is (byte_put b at out h) in
-    let ended : Puts (numbers_text numbers ++ (10 ∷ [])) _ (at + 1) out' (r + 1) (set out'' r 10) =
-    put_more behind (byte_put 10 r out'' h') in
-    let all : Puts _ (1 + (21 * length numbers + 1)) at out (r + 1) (set out'' r 10) = put_more letter ended in
-    record { follows = all.follows; short = omega (arith, all.short) }
-
 -- What a line comes to.
 module _ {outcome : Outcome} {at : ℕ} {out : List ℕ} where
   pub nothing_told : outcome ≡ Opened → Puts (outcome_text outcome) 107 at out at out

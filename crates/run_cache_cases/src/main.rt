@@ -2,6 +2,7 @@
 // what it gives), and the figures after it: templates, bodies, bytes, cached, dropped, handed out.
 #![tactic(auto)]
 
+use answer_numbers::number_of;
 use config::PendingFlowsConfig;
 use pending_calls::clear;
 use pending_drain::drain;
@@ -18,21 +19,12 @@ fn print_value(rt: &impl Print, n: u64) {
 }
 
 // Prints a call's number: 0, or that of its refusal.
-fn print_number<E>(rt: &impl Print, answer: Result<(), E>)
-where
-    u32: From<E>,
-{
-    match answer {
-        Ok(()) => print_value(rt, 0),
-        Err(refusal) => print_value(rt, u32::from(refusal) as u64),
-    }
+fn print_number<E: Into<u32>>(rt: &impl Print, answer: Result<(), E>) {
+    print_value(rt, number_of(answer) as u64);
 }
 
 // Prints 0 and a count of bodies, or the number of the refusal.
-fn print_count<E>(rt: &impl Print, answer: Result<usize, E>)
-where
-    u32: From<E>,
-{
+fn print_count<E: Into<u32>>(rt: &impl Print, answer: Result<usize, E>) {
     match answer {
         Ok(count) => {
             print_value(rt, 0);
