@@ -4,9 +4,6 @@ ghost use Rattle.areas.specs.Overwrite.{moved};
 
 use crate::copying::{copy_to_front, write_at};
 
-// How many words `move_four` reads before it writes the first.
-const FOUR: usize = 4;
-
 // The most bytes that are read before the first of them is written.
 const BLOCK: usize = 2048;
 
@@ -26,26 +23,17 @@ pub fn move_within<T: Copy>(area: &mut [T], from: usize, to: usize, len: usize)
     area.copy_within(from..from + len, to);
 }
 
-// Moves as many elements as `block` holds. All are read before the first is written, so source and target may overlap;
+// Moves as many bytes as `block` holds. All are read before the first is written, so source and target may overlap;
 // and of both copies, with a local array for `block`, the compiler makes one call of the C library's `memmove`, with no
 // array, where the array is long (docs/DECISIONS.md).
 #[tactic(auto, using(crate::proofs::Moves::block_moved))]
-fn move_through<T: Copy>(area: &mut [T], from: usize, to: usize, block: &mut [T])
+fn move_through(area: &mut [u8], from: usize, to: usize, block: &mut [u8])
     requires { (from + length block.old ≤ length area.old) × (to + length block.old ≤ length area.old) }
     ensures { area.new ≡ moved from to (length block.old) area.old }
 {
     let end = from + block.len();
     copy_to_front(block, &area[from..end]);
     write_at(area, to, block);
-}
-
-// Moves four words.
-pub fn move_four(area: &mut [u64], from: usize, to: usize)
-    requires { (from + 4 ≤ length area.old) × (to + 4 ≤ length area.old) }
-    ensures { area.new ≡ moved from to 4 area.old }
-{
-    let mut four: [u64; FOUR] = [0; FOUR];
-    move_through(area, from, to, &mut four);
 }
 
 // How many bytes a move within an area of so many reads at once. Any number that an array holds would do, so none is

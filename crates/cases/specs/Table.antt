@@ -1,7 +1,5 @@
 -- Document 01's cases marked P, in one table, proved together by computation.
-use Rattle.std.specs.Prelude.{Some, None}
-use Rattle.std.specs.Prelude.{◌≡◌, refl, List, [], ◌∷◌, ◌++◌, map, ℕ, replicate}
-use Rattle.std.specs.Prelude as Std
+use Rattle.std.specs.Prelude.{◌≡◌, refl, Some, None, List, [], ◌∷◌, ◌++◌, map, ℕ, replicate}
 use Rattle.wire.specs.declared.Reading.TheVariants.{V9Fixed, IpfixFixed, IpfixVariable}
 use Rattle.wire.specs.Size.{least_size}
 use Rattle.wire.specs.Padding.{is_complete}
@@ -44,7 +42,7 @@ eight_used = record {
   max_payload_bytes = record { 0 = 100 };
   used_values = record { 0 = 8 };
   used_payload_bytes = record { 0 = 0 };
-  exceeded = Std.None;
+  exceeded = None;
 }
 
 -- templates 2, bodies 2, entry 10, total 16, TTL 100

@@ -13,6 +13,8 @@ use table::{Entry, entry_at};
 use table_entries::{Kept, Run, StayTest, move_run, put_entry, run_up_to, stays};
 
 // Keeps of the entries those that stay by themselves, in order, and moves their bodies together towards the front.
+// A loop of its own, beside the other sweep's: the bodies move in the same pass, and another promise is kept.
+// The words and how many entries, no parts: `as_chunks_mut` says nothing of what the words end as.
 pub fn sweep_packing(words: &mut [u64], bytes: &mut [u8], entries: usize, test: StayTest) -> Kept
     requires { (entries_at + entry_words * entries ≤ length words.old) × (places_legal 0 (length bytes.old)
         (entries_from words.old entries_at entries) ≡ true) }

@@ -12,6 +12,8 @@ use table::entry_at;
 use table_entries::{Kept, StayTest, move_entry, stays};
 
 // Keeps of the entries those that stay by themselves, in order.
+// No `sweep` with nothing to skip: in a trial one loop for both slowed one of the two (docs/DECISIONS.md).
+// The words and how many entries, no parts: `as_chunks_mut` says nothing of what the words end as.
 pub fn sweep_staying(words: &mut [u64], entries: usize, test: StayTest) -> Kept
     requires { entries_at + entry_words * entries ≤ length words.old }
     ensures { KeepsOnly (kept_by (stays test) (entries_from words.old entries_at entries)) entries

@@ -48,7 +48,6 @@ module _ (x : Option TemplateRecord) where
 -- what holds of each record with the key holds of the one that is found
 pub record_keyed : (P : TemplateRecord → Type 0) (id : ℕ) (rs : List TemplateRecord) →
     All (λ r. eqb id r.key ≡ true → P r) rs → FoundHas P (record_of id rs)
-unfolding record_of
 record_keyed P id [] a = tt
 record_keyed P id (r ∷ rs) a = by_key (eqb id r.key) refl (record_keyed P id rs a.1)
   where

@@ -24,7 +24,7 @@ use Rattle.table_entries.specs.declared.StayTest.{StayTest}
 use Rattle.table_entries.specs.Stays.{stays}
 use Rattle.table_entries.specs.Sums.{summed}
 use Rattle.table_entries.proofs.LabelSums.{zeros}
-use Rattle.table_records.specs.Choose.{skip_all, set_each, live_records, first_live}
+use Rattle.table_records.specs.Choose.{skip_all, set_each, live_records, label_of_first_live, first_live}
 use Rattle.cache_model.specs.Bodies.{Body, Template, size, keep, bodies_of, without, expired}
 use Rattle.cache_model.specs.Removal.{evictions, kept_of}
 use Rattle.cache_model.specs.Offer.{accepted, refused}
@@ -165,7 +165,7 @@ module _ (w b : List ℕ) (id len clock : ℕ) where
             first_read b es (λ x. not (old x)) live (λ k j. eqb u.label k ≡ eqb u.key j) stay stay_counted a
             (omega (arith, some_templates w b ok))
 
-    module _ (label : ℕ) (labelled : label ≡ label_or_none (label_of id held)) (v : Bool)
+    module _ (label : Option ℕ) (labelled : label ≡ label_of id held) (v : Bool)
         (t : Bool) (certain : v ≡ true → NothingGoes n (chance_count w) d.all t) (m : ℕ)
         (seen : m ≡ live_bodies w id clock) (unaged : t ≡ none_expires l.ttl d.all (count_of id held) m) where
       abbrev made : OfferPlan
@@ -183,7 +183,7 @@ module _ (w b : List ℕ) (id len clock : ℕ) where
       leaving = take n held
 
       -- the label that is evicted for room, where one is
-      first_told : (k : ℕ) → k < 1024 → eqb k d.first ≡ goes && eqb k (first_live live stay)
+      first_told : (k : ℕ) → k < 1024 → eqb k (label_or_none d.first) ≡ goes && eqb k (first_live live stay)
       first_told k small =
           rw decided.first (by_tests d.all (leb l.max_pending_flows (live_records live stay)))
         where
@@ -191,7 +191,8 @@ module _ (w b : List ℕ) (id len clock : ℕ) where
           none = ne_eqb k 1024 (λ e. omega arith)
 
           by_tests : (s t : Bool) →
-              eqb k (cond s (cond t (first_live live stay) 1024) 1024) ≡ (s && t) && eqb k (first_live live stay)
+              eqb k (label_or_none (cond s (cond t (label_of_first_live live stay) None) None))
+              ≡ (s && t) && eqb k (first_live live stay)
           by_tests true true = refl
           by_tests true false = none
           by_tests false t = none
@@ -201,7 +202,7 @@ module _ (w b : List ℕ) (id len clock : ℕ) where
         small : u.label < 1024
         apart : All (λ v. u.label ≢ v.label) (table_of w).handed
         others : All (Alike u) held
-        named : eqb label u.label ≡ eqb id u.key
+        named : eqb (label_or_none label) u.label ≡ eqb id u.key
 
       told_thins : (u : TemplateRecord) → Told u →
           drop (get_or (skip_of w made) u.label 0) (keep (body_stays (plan_test l clock made) u.label)
@@ -210,7 +211,7 @@ module _ (w b : List ℕ) (id len clock : ℕ) where
       unfolding skip_of
       told_thins u t =
           rw (
-            held_skipped leaving (table_of w).handed d.first u.label t.small t.apart,
+            held_skipped leaving (table_of w).handed (label_or_none d.first) u.label t.small t.apart,
             first_told u.label t.small,
             has_alike b es u leaving (all_take (Alike u) n held t.others),
             templates_take b es n held,
@@ -254,7 +255,7 @@ module _ (w b : List ℕ) (id len clock : ℕ) where
 
           each : (us : List TemplateRecord) → All (λ u. u.label < 1024) us →
               All (λ u. All (λ v. u.label ≢ v.label) (table_of w).handed) us → All (λ u. All (Alike u) held) us →
-              All (λ u. eqb label u.label ≡ eqb id u.key) us → All Told us
+              All (λ u. eqb (label_or_none label) u.label ≡ eqb id u.key) us → All Told us
           each [] s a o m = tt
           each (u ∷ us) s a o m = (
             record { small = s.0; apart = a.0; others = o.0; named = m.0 },
@@ -265,7 +266,7 @@ module _ (w b : List ℕ) (id len clock : ℕ) where
       skips_none : NothingGoes n (chance_count w) d.all t → skip_of w made ≡ zeros
       unfolding skip_of set_each records_from
       skips_none none =
-          let no-first : d.first ≡ 1024 = decided.first ∙ rw none.one_id in
+          let no-first : d.first ≡ None = decided.first ∙ rw none.one_id in
           rw (no-first, none.evicts_none, ← handed_are w b ok, none.hands_none) none_set
 
       small : All (λ x. x.label < 1024) es
@@ -278,7 +279,7 @@ module _ (w b : List ℕ) (id len clock : ℕ) where
           All (λ x. stays (plan_test l clock made) x ≡ true) es
       fresh_stay one counts =
           let fresh =
-          subst (λ (k : ℕ). All (λ x. eqb k x.label && expired_at l.ttl clock x.clock ≡ false) es)
+          subst (λ (k : Option ℕ). All (λ x. eqb (label_or_none k) x.label && expired_at l.ttl clock x.clock ≡ false) es)
           (sym labelled) (label_fresh (held_read w b ok clock) id small counts) in
           all_stay (plan_test l clock made) es one fresh (short w b ok)
 
@@ -319,7 +320,7 @@ module _ (w b : List ℕ) (id len clock : ℕ) where
             thins = λ x e.
                 all_map Told _ (λ u t. told_thins u t ∙ sym (thin_is x e u.key (bodies_at b u.label es)))
                 held held_told;
-            ends_chance = all_handed_skipped leaving handed d.first
+            ends_chance = all_handed_skipped leaving handed (label_or_none d.first)
                 (all_back (λ u. u.label < 1024) held handed (rows w b ok).labels_small);
             few = few;
             keeps_all = all_kept;

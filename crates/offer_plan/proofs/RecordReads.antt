@@ -13,9 +13,8 @@ use Rattle.config.proofs.Lists.{All}
 use Rattle.config.proofs.Tests.{same_test}
 use Rattle.table.specs.declared.Entry.{Entry}
 use Rattle.table.specs.declared.TemplateRecord.{TemplateRecord}
-use Rattle.table.specs.Reads.{label_of}
-use Rattle.table.specs.Passes.{first_label}
-use Rattle.table_records.specs.Choose.{evictions_of, live_records, first_live}
+use Rattle.table.specs.Reads.{label_of, label_or_none}
+use Rattle.table_records.specs.Choose.{evictions_of, live_records, label_of_first_live, first_live}
 use Rattle.cache_model.specs.Bodies.{Body, Template, size, sum_bodies, sum_templates, keep, bodies_of, without}
 use Rattle.cache_model.specs.Bodies.{unless_empty}
 use Rattle.cache_model.specs.Removal.{evictions, kept_of}
@@ -59,7 +58,8 @@ module _ (b : List ℕ) (es : List Entry) where
 
   -- the bytes of the first template
   abbrev pub first_size : List TemplateRecord → ℕ
-  first_size rs = sum_bodies size (bodies_at b (first_label rs) es)
+  first_size [] = 0
+  first_size (r ∷ rs) = sum_bodies size (bodies_at b r.label es)
 
   -- one where there is room without its bytes
   pub one_evicted : (most more : ℕ) (rs : List TemplateRecord) → more ≤ most →
@@ -111,7 +111,7 @@ module _ (b : List ℕ) (es : List Entry) where
     pub first_read : (P : ℕ → ℕ → Type 0) (rs : List TemplateRecord) → Counted rs →
         All (λ r. P r.label r.key) rs → 0 < live_records live rs →
         P (first_live live rs) (first_id (kept_of (λ j x. p x) (templates_at b es rs)))
-    unfolding live_records first_live
+    unfolding live_records
     first_read P [] has a some = absurd (omega arith)
     first_read P (r ∷ rs) has a some =
         by_list (keep p (bodies_at b r.label es)) has.0 (first_read P rs has.1 a.1) some
@@ -122,7 +122,7 @@ module _ (b : List ℕ) (es : List Entry) where
         by_list : (bs : List Body) → get_or live r.label 0 ≡ length bs →
             (0 < live_records live rs → P (first_live live rs) (first_id kept)) →
             0 < cond (ltb 0 (get_or live r.label 0)) 1 0 + live_records live rs →
-            P (cond (ltb 0 (get_or live r.label 0)) r.label (first_live live rs))
+            P (label_or_none (cond (ltb 0 (get_or live r.label 0)) (Some r.label) (label_of_first_live live rs)))
             (first_id (unless_empty r.key bs kept))
         by_list [] e ih h =
             let none : ltb 0 (get_or live r.label 0) ≡ false = le-ltb 0 (get_or live r.label 0) (omega arith) in

@@ -13,6 +13,7 @@ use borrow.Author.Tests.{eqb-true, eqb-false}
 use Rattle.config.proofs.Lists.{All, all_both}
 use Rattle.table.specs.declared.TemplateRecord.{TemplateRecord}
 use Rattle.table.specs.Table.{table_of, has_label}
+use Rattle.table.specs.Reads.{label_or_none}
 use Rattle.table.proofs.Labels.{absent_holds, own_labels}
 use Rattle.table_entries.proofs.LabelSums.{zeros}
 use Rattle.table_records.specs.Choose.{skip_all, skipping}
@@ -46,7 +47,7 @@ module _ (leaving handed : List TemplateRecord) (label : ℕ) where
   first_long : length (skipping zeros leaving) ≡ 1024
   first_long = length_skipping zeros leaving ∙ length-replicate {A = ℕ} 1024 0
 
-  both_long : length (skipping (skipping zeros leaving) handed) ≡ 1024
+  pub both_long : length (skipping (skipping zeros leaving) handed) ≡ 1024
   both_long = length_skipping (skipping zeros leaving) handed ∙ first_long
 
   skipped_long : length skipped ≡ 1024
@@ -81,4 +82,4 @@ module _ (leaving handed : List TemplateRecord) (label : ℕ) where
 -- a number for each label
 pub skips_long : (w : List ℕ) (r : OfferPlan) → length (skip_of w r) ≡ 1024
 unfolding skip_of
-skips_long w r = skipped_long (take r.evicted (table_of w).held) (table_of w).handed r.first
+skips_long w r = skipped_long (take r.evicted (table_of w).held) (table_of w).handed (label_or_none r.first)

@@ -1,13 +1,12 @@
--- What a plan reads of a well-formed table: the bytes and the live bodies of the held templates, and the records that
--- evictions leave. Assumes nothing.
+-- What a plan reads of a well-formed table: the bytes and the live bodies of the held templates. Assumes nothing.
 use Rattle.std.proofs.Common.{None}
 use mathlib.Core.Path.{◌≡◌, sym, ap, ◌∙◌}
 use mathlib.Core.Bool.{Bool, true, false, not, cond}
 use mathlib.Core.List.{List, [], ◌∷◌, ◌++◌}
-use Prim.Native.Nat.{ℕ, suc, ◌+◌, ◌*◌, ◌-◌, ◌≤◌, ◌<◌}
+use Prim.Native.Nat.{ℕ, suc, ◌+◌, ◌*◌, ◌≤◌, ◌<◌}
 use native.Mathlib.Omega.{arith}
 use lib.Dec.{eqb, ltb}
-use lib.ListN.{length, take, drop}
+use lib.ListN.{length}
 use borrow.Author.Tests.{eqb-true}
 use Rattle.config.specs.Limits.{record_words}
 use Rattle.config.proofs.Lists.{All, all_map, all_front}
@@ -127,7 +126,7 @@ module _ (w b : List ℕ) (ok : well_formed w (length b) ≡ true) where
       legal.table_legal_lem.total_right
       ∙ lens_total b held es (differ_front (λ r. r.label) held (table_of w).handed rows.labels_differ) within
 
-  -- the held records, those that go and those that stay, and what is handed out
+  -- the held records, and what is handed out
   pub held_are : records_from w from (held_count w) ≡ held
   held_are = sym (first_records w from (held_count w) (chance_count w))
 
@@ -140,19 +139,3 @@ module _ (w b : List ℕ) (ok : well_formed w (length b) ≡ true) where
   pub evicted_few : (most more : ℕ) → evictions most more (templates_at b es held) ≤ held_count w
   evicted_few most more =
       omega (arith, evictions_few most more (templates_at b es held), length_templates b es held, held_long)
-
-  module _ (n : ℕ) (few : n ≤ held_count w) where
-    both : n + (held_count w - n) ≡ held_count w
-    both = omega arith
-
-    pub leaving_are : records_from w from n ≡ take n held
-    leaving_are =
-        sym (first_records w from n (held_count w - n))
-        ∙ ap (λ (m : ℕ). take n (records_from w from m)) both
-        ∙ ap (take n) held_are
-
-    pub stay_are : records_from w (from + record_words * n) (held_count w - n) ≡ drop n held
-    stay_are =
-        sym (records_behind w from n (held_count w - n))
-        ∙ ap (λ (m : ℕ). drop n (records_from w from m)) both
-        ∙ ap (drop n) held_are

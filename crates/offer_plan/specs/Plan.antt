@@ -7,13 +7,13 @@ use Rattle.table.specs.declared.Entry.{Entry}
 use Rattle.table.specs.declared.TemplateRecord.{TemplateRecord}
 use Rattle.table.specs.Layout.{limits_of, held_count}
 use Rattle.table.specs.Table.{table_of, tally}
-use Rattle.table.specs.Passes.{first_label}
+use Rattle.table.specs.Passes.{label_of_first}
 use Rattle.table.specs.Reads.{record_of, label_of, label_or_none, live_count}
 use Rattle.table_entries.specs.declared.StayTest.{StayTest}
 use Rattle.table_entries.specs.Stays.{stays}
 use Rattle.table_entries.specs.Sums.{summed}
 use Rattle.table_entries.specs.Sweep.{swept}
-use Rattle.table_records.specs.Choose.{skip_all, skipping, live_records, first_live}
+use Rattle.table_records.specs.Choose.{skip_all, skipping, live_records, label_of_first_live}
 use Rattle.cache_model.specs.Bodies.{Body, size, expired, keep}
 use Rattle.cache_model.specs.Offer.{accepted, refused}
 use Rattle.cache_model.proofs.Plans.{plan, thin}
@@ -36,6 +36,11 @@ live_test ttl clock = record {
 unfoldable pub lens_of : ℕ → List Entry → ℕ
 lens_of label [] = 0
 lens_of label (e ∷ es) = cond (eqb label e.label) e.len 0 + lens_of label es
+
+-- whether those of the first record have at least so many bytes
+abbrev pub first_reaches : ℕ → List TemplateRecord → List Entry → Bool
+first_reaches least [] es = false
+first_reaches least (r ∷ rs) es = leb least (lens_of r.label es)
 
 -- how many live bodies each label has
 abbrev pub live_sums : Option ℕ → ℕ → List Entry → List ℕ
@@ -77,12 +82,12 @@ others_fill (Some k) n most = ltb most n
 others_fill None n most = leb most n
 
 -- the label of the least recent template with live bodies, where those templates are as many as there may be
-abbrev pub first_evicted : ℕ → List ℕ → List TemplateRecord → ℕ
-first_evicted most live rs = cond (leb most (live_records live rs)) (first_live live rs) 1024
+abbrev pub first_evicted : ℕ → List ℕ → List TemplateRecord → Option ℕ
+first_evicted most live rs = cond (leb most (live_records live rs)) (label_of_first_live live rs) None
 
 -- the same where each template has live bodies
-abbrev pub first_of_full : ℕ → List TemplateRecord → ℕ
-first_of_full most rs = cond (leb most (length rs)) (first_label rs) 1024
+abbrev pub first_of_full : ℕ → List TemplateRecord → Option ℕ
+first_of_full most rs = cond (leb most (length rs)) (label_of_first rs) None
 
 -- The decision on the records that step 2 leaves, where `live` has the live bodies of each label.
 pub record Decides (l : PendingFlowsConfig) (id : ℕ) (live : List ℕ) (rs : List TemplateRecord) (r : Decision) : Type 0
@@ -91,7 +96,7 @@ pub record Decides (l : PendingFlowsConfig) (id : ℕ) (live : List ℕ) (rs : L
         leb l.max_entries_per_template (live_at live (label_of id rs))
     pub all : r.all ≡ not (ltb 0 (live_at live (label_of id rs))) &&
         others_fill (label_of id rs) (length rs) l.max_pending_flows
-    pub first : r.first ≡ cond r.all (first_evicted l.max_pending_flows live rs) 1024
+    pub first : r.first ≡ cond r.all (first_evicted l.max_pending_flows live rs) None
 
 -- no template goes for its bytes, nothing is handed out, only the id's bodies can go as expired, and none does
 pub record NothingGoes (evicted chance : ℕ) (all unaged : Bool) : Type 0 where
@@ -112,15 +117,15 @@ plan_test l clock r = record {
   ttl = l.ttl;
   clock = clock;
   all = r.all;
-  label = r.label;
+  label = label_or_none r.label;
   max_size = 18446744073709551615;
 }
 
 -- how many of each label's oldest bodies go: all of the templates that are evicted, and of what is handed out
 unfoldable pub skip_of : List ℕ → OfferPlan → List ℕ
 skip_of w r =
-    set (skipping (skipping (replicate 1024 0) (take r.evicted (table_of w).held)) (table_of w).handed) r.first
-    skip_all
+    set (skipping (skipping (replicate 1024 0) (take r.evicted (table_of w).held)) (table_of w).handed)
+    (label_or_none r.first) skip_all
 
 -- where the plan says that nothing goes, the sweep keeps every entry
 abbrev pub KeepsAll : List ℕ → ℕ → OfferPlan → Type 0
@@ -138,7 +143,7 @@ pub record Plans (w b : List ℕ) (id len clock : ℕ) (r : OfferPlan) : Type 0 
   pub verdict : (x : Body) → size x ≡ len →
       (plan (limits_of w) (expired (limits_of w).ttl clock) id x (cache_of (table_of w) b).held).verdict
       ≡ cond r.full (refused 20) accepted
-  pub label : r.label ≡ label_or_none (label_of id (table_of w).held)
+  pub label : r.label ≡ label_of id (table_of w).held
   pub thins : (x : Body) → size x ≡ len → All (λ u.
       drop (get_or (skip_of w r) u.label 0) (keep (body_stays (plan_test (limits_of w) clock r) u.label)
       (bodies_at b u.label (table_of w).entries))

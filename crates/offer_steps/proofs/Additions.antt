@@ -1,8 +1,10 @@
 -- A body put behind the others, from its steps: the room, the entry and its bytes, the record. Assumes nothing.
-use mathlib.Core.Path.{◌≡◌, refl, ap, ◌∙◌, subst}
+use Rattle.std.proofs.Common.{Option, Some, None}
+use Rattle.std.proofs.lemmas.Option.{none-some, same_Some}
+use mathlib.Core.Path.{◌≡◌, sym, ap, ◌∙◌, subst}
 use mathlib.Core.Bool.{true}
 use mathlib.Core.List.{List}
-use Prim.Native.Nat.{ℕ, ◌+◌, ◌*◌, ◌≤◌, ◌<◌}
+use Prim.Native.Nat.{ℕ, ◌+◌, ◌*◌, ◌≤◌}
 use native.Mathlib.Omega.{arith}
 use lib.ListN.{length}
 use Rattle.config.specs.declared.PendingFlowsConfig.{PendingFlowsConfig}
@@ -21,12 +23,12 @@ use Rattle.offer_steps.specs.Room.{MakesRoom, entry_of, StoresBody, RoomFor, Add
 use Rattle.offer_steps.proofs.Rooms.{room_made}
 
 -- the label that is chosen
-pub label_kept : (label : ℕ) (rs : List TemplateRecord) → label < 1024 → ChoosesLabel label rs label
-label_kept label rs h = record { held = λ _. refl; free = λ past. absurd (omega arith) }
+pub label_kept : (label : Option ℕ) (k : ℕ) (rs : List TemplateRecord) → label ≡ Some k → ChoosesLabel label rs k
+label_kept label k rs is = rw is (record { held = λ n e. same_Some k n e; free = λ e. absurd (none-some k (sym e)) })
 
-pub label_free : (label free : ℕ) (w : List ℕ) (l : PendingFlowsConfig) (p k : ℕ) → 1024 ≤ label → p ≡ records_at l →
-    FreeLabel (records_from w p k) free → ChoosesLabel label (records_from w (records_at l) k) free
-label_free label free w l p k h from is = record { held = λ small. absurd (omega arith); free = λ _. rw from at is }
+pub label_free : (label : Option ℕ) (free : ℕ) (rs : List TemplateRecord) → label ≡ None → FreeLabel rs free →
+    ChoosesLabel label rs free
+label_free label free rs none is = rw none (record { held = λ n e. absurd (none-some n e); free = λ _. is })
 
 module _ {l : PendingFlowsConfig} {k m : ℕ} (body : List ℕ) {w b : List ℕ} (room : RoomFor l k m (length body) w b)
     {w₁ b₁ : List ℕ} {place : ℕ} (made : MakesRoom m (length body) l.max_total_bytes w b w₁ b₁ place) where

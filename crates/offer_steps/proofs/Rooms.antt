@@ -11,6 +11,7 @@ use Rattle.config.specs.Limits.{entry_words}
 use Rattle.table.specs.declared.Entry.{Entry}
 use Rattle.table.specs.Layout.{entries_at}
 use Rattle.table.specs.Table.{entries_from}
+use Rattle.table.specs.Parts.{entries_of}
 use Rattle.table.specs.WellFormed.{places_legal}
 use Rattle.table.proofs.Facts.{Placed, places_say, places_hold}
 use Rattle.table.proofs.Labels.{labels_of}
@@ -24,22 +25,29 @@ use Rattle.pending_flows.specs.View.{bodies_at}
 use Rattle.table_view.proofs.Packed.{packed_long, packed_bodies, packed_drop}
 use Rattle.offer_steps.specs.Room.{fits_behind, room_entries, room_bytes, room_place, MakesRoom, StoresBody}
 
+pub parts_legal : (most : ℕ) (es : List Entry) (parts : List (List ℕ)) → places_legal 0 most es ≡ true →
+    entries_of parts ≡ es → places_legal 0 most (entries_of parts) ≡ true
+parts_legal most es parts legal are = rw are legal
+
 pub legal_wider : (most : ℕ) (es : List Entry) → places_legal 0 most es ≡ true → (n : ℕ) → most ≤ n →
     places_legal 0 n es ≡ true
 legal_wider most es legal n room = places_hold 0 n es (placed_wider 0 most n es room (places_say 0 most es legal))
 
 module _ (m len most : ℕ) (w b : List ℕ) where
-  pub room_behind : (end : ℕ) → end ≡ last_end (entries_from w entries_at m) → end + len ≤ most →
-      MakesRoom m len most w b w b end
-  room_behind end is h =
+  pub room_behind : (end : ℕ) (parts : List (List ℕ)) → entries_of parts ≡ entries_from w entries_at m →
+      end ≡ last_end (entries_of parts) → end + len ≤ most → MakesRoom m len most w b w b end
+  room_behind end parts are read h =
       let es = entries_from w entries_at m in
+      let is : end ≡ last_end es = rw are at read in
       let t = le-leb (last_end es + len) most (omega (arith, is)) in
       record { entries = rw t; bytes = rw t; place = rw t is; head = refl; tail = refl }
 
-  pub room_packed : (end r : ℕ) (w' b' : List ℕ) → end ≡ last_end (entries_from w entries_at m) → most < end + len →
+  pub room_packed : (end r : ℕ) (w' b' : List ℕ) (parts : List (List ℕ)) →
+      entries_of parts ≡ entries_from w entries_at m → end ≡ last_end (entries_of parts) → most < end + len →
       Packs m w b w' b' r → MakesRoom m len most w b w' b' r
-  room_packed end r w' b' is h p =
+  room_packed end r w' b' parts are read h p =
       let es = entries_from w entries_at m in
+      let is : end ≡ last_end es = rw are at read in
       let t = lt-leb (last_end es + len) most (omega (arith, is)) in
       record {
         entries = rw t p.entries;

@@ -1,4 +1,5 @@
 -- Room for a body behind the others, and the body in it.
+use Rattle.std.specs.Prelude.{Option, Some, None}
 use Rattle.std.specs.Prelude.{◌≡◌, List, [], ◌∷◌, ◌++◌, Bool, true, cond, ℕ, ◌+◌, ◌*◌, ◌≤◌, ◌<◌, leb, length, take, drop}
 use Rattle.areas.specs.Overwrite.{put_at}
 use Rattle.config.specs.declared.PendingFlowsConfig.{PendingFlowsConfig}
@@ -74,13 +75,7 @@ pub record AddsBody (l : PendingFlowsConfig) (k m : ℕ) (r : TemplateRecord) (b
       ≡ inserted (records_from w (records_at l) k) r.key k (index_from w (records_at l) k)
   pub behind : drop (records_at l + record_words * (k + 1)) w' ≡ drop (records_at l + record_words * (k + 1)) w
 
--- k records, fewer than there are labels, lie within the words
-pub record LabelRoom (l : PendingFlowsConfig) (k : ℕ) (w : List ℕ) : Type 0 where
-  pub few : k < 1024
-  pub bodies_few : max_bodies l ≤ 262144
-  pub within : records_at l + record_words * k ≤ length w
-
--- the label of the id's template, or, where that is none, one that none of these records has
-pub record ChoosesLabel (label : ℕ) (rs : List TemplateRecord) (r : ℕ) : Type 0 where
-  pub held : label < 1024 → r ≡ label
-  pub free : 1024 ≤ label → FreeLabel rs r
+-- the label of the id's template, or, where it has none, one that none of these records has
+pub record ChoosesLabel (label : Option ℕ) (rs : List TemplateRecord) (r : ℕ) : Type 0 where
+  pub held : (k : ℕ) → label ≡ Some k → r ≡ k
+  pub free : label ≡ None → FreeLabel rs r

@@ -1,19 +1,17 @@
 // The counters, and the header after an offer.
-ghost use Rattle.std.specs.Prelude.{◌≡◌, true, ◌≤◌, length, set};
+ghost use Rattle.std.specs.Prelude.{◌≡◌, ◌≤◌, length, set};
 ghost use Rattle.areas.specs.Overwrite.{overwritten};
 ghost use Rattle.config.specs.Limits.{header_words};
-ghost use Rattle.table.specs.Layout.{limits_of, dropped_word};
+ghost use Rattle.table.specs.Layout.{dropped_word};
 ghost use Rattle.table.specs.Table.{table_of};
-ghost use Rattle.table.specs.WellFormed.{well_formed};
 ghost use Rattle.cache_model.specs.Bodies.{all_bodies};
 ghost use Rattle.cache_model.specs.Cache.{raised};
-ghost use Rattle.pending_flows.specs.Header.{dropped_at, figures_at, header_of};
+ghost use Rattle.pending_flows.specs.Header.{dropped_at, header_of, HoldsCache};
 ghost use Rattle.pending_flows.specs.View.{cache_of};
 ghost use Rattle.offer_steps.specs.Settle.{settled_figures};
 
-use config::PendingFlowsConfig;
 use pending_calls::raised;
-use pending_flows::{HeaderFigures, handed_count, write_header};
+use pending_flows::{Header, HeaderFigures, handed_count};
 use table::DROPPED;
 
 // Counts one more dropped body.
@@ -25,25 +23,20 @@ pub fn count_drop(words: &mut [u64])
 }
 
 // How many bodies are held: all but those that are handed out.
-pub fn held_bodies(
-    words: &[u64],
-    bytes: &[u8],
-    limits: PendingFlowsConfig,
-    figures: HeaderFigures,
-) -> u64
-    requires bytes_value { (well_formed words.now (length bytes.now) ≡ true) × (limits ≡ limits_of words.now) }
-    requires figures_value { figures ≡ figures_at words.now }
+#[tactic(auto, using(crate::proofs::HeldBodies::held_rest))]
+pub fn held_bodies(words: &[u64], bytes: &[u8], header: Header) -> u64
+    requires { HoldsCache header words.now (length bytes.now) }
     ensures { result ≡ length (all_bodies (cache_of (table_of words.now) bytes.now).held) }
 {
-    figures.entries - handed_count(words, bytes, limits)
+    header.figures.entries - handed_count(words, bytes, header.limits)
 }
 
 // Writes the header after an offer: so many bodies more are cached and dropped, so many bytes, templates and bodies are
 // held, and nothing is handed out.
+#[tactic(auto, using(crate::proofs::HeldBodies::header_settled))]
 pub fn settle(
     words: &mut [u64],
-    limits: PendingFlowsConfig,
-    figures: HeaderFigures,
+    header: Header,
     cached: u64,
     dropped: u64,
     total: u64,
@@ -51,16 +44,20 @@ pub fn settle(
     entries: usize,
 )
     requires { header_words ≤ length words.old }
-    ensures { words.new ≡ overwritten words.old (header_of limits (settled_figures figures cached dropped
-        total templates entries)) }
+    ensures { words.new ≡ overwritten words.old (header_of header.limits (settled_figures header.figures cached
+        dropped total templates entries)) }
 {
-    let after = HeaderFigures {
-        cached: raised(figures.cached, cached),
-        dropped: raised(figures.dropped, dropped),
-        total,
-        templates: templates as u64,
-        entries: entries as u64,
-        chance: 0,
+    let Header { limits, figures } = header;
+    let after = Header {
+        limits,
+        figures: HeaderFigures {
+            cached: raised(figures.cached, cached),
+            dropped: raised(figures.dropped, dropped),
+            total,
+            templates: templates as u64,
+            entries: entries as u64,
+            chance: 0,
+        },
     };
-    write_header(words, limits, after);
+    after.write(words);
 }

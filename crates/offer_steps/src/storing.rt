@@ -1,29 +1,32 @@
 // Room for a body behind the others, and the body in it.
-ghost use Rattle.std.specs.Prelude.{◌≡◌, true, ◌+◌, ◌*◌, ◌≤◌, length};
+ghost use Rattle.std.specs.Prelude.{◌≡◌, true, ◌+◌, ◌*◌, ◌≤◌, ◌<◌, length};
 ghost use Rattle.config.specs.Limits.{entry_words};
-ghost use Rattle.table.specs.Layout.{entries_at, records_at};
-ghost use Rattle.table.specs.Table.{entries_from, records_from};
+ghost use Rattle.table.specs.Layout.{entries_at};
+ghost use Rattle.table.specs.Parts.{templates_of};
+ghost use Rattle.table.specs.Table.{entries_from};
 ghost use Rattle.table.specs.WellFormed.{places_legal};
 ghost use Rattle.offer_steps.specs.Room.{MakesRoom, entry_of, StoresBody, RoomFor, AddsBody};
-ghost use Rattle.offer_steps.specs.Room.{LabelRoom, ChoosesLabel};
+ghost use Rattle.offer_steps.specs.Room.{ChoosesLabel};
 
 use areas::write_at;
-use config::{ENTRY_WORDS, HEADER_WORDS, PendingFlowsConfig};
+use config::{ENTRY_WORDS, HEADER_WORDS, PendingFlowsConfig, RECORD_WORDS};
 use pending_calls::Removed;
-use table::{Entry, LABELS, TemplateRecord, records_at};
+use table::{Entry, TemplateRecord, entries_in, records_at};
 use table_entries::{last_end, pack_bodies, put_entry};
 use table_promotion::add_record;
 use table_records::free_label;
 
 // Where a body of this length goes: behind the last one, or, where it would end past `most` there, behind them all
 // once they are moved together.
+// The words and how many entries, no parts: `as_chunks_mut` says nothing of what the words end as.
 fn make_room(words: &mut [u64], bytes: &mut [u8], entries: usize, len: usize, most: usize) -> usize
     requires entries_in_bounds { (entries_at + entry_words * entries ≤ length words.old) × (places_legal 0 most (entries_from words.old entries_at entries) ≡ true) }
     requires len_le_most { (len ≤ most) × ((most ≤ length bytes.old) × (most ≤ 67108864)) }
     ensures { MakesRoom entries len most words.old bytes.old words.new
         bytes.new result }
 {
-    let end = last_end(words, entries) as usize;
+    let known = entries_in(words, entries);
+    let end = last_end(known) as usize;
     if end + len <= most {
         return end;
     }
@@ -31,6 +34,7 @@ fn make_room(words: &mut [u64], bytes: &mut [u8], entries: usize, len: usize, mo
 }
 
 // Stores a body's entry behind the others, and its bytes at their place.
+// The words and how many entries, no parts: `as_chunks_mut` says nothing of what the words end as.
 fn store_body(
     words: &mut [u64],
     bytes: &mut [u8],
@@ -55,18 +59,20 @@ fn store_body(
     write_at(bytes, place, body);
 }
 
-// The label of the id's template, or, where that is none, one that no record has.
-pub fn choose_label(words: &[u64], limits: PendingFlowsConfig, records: usize, label: u64) -> u64
-    requires { LabelRoom limits records words.now }
-    ensures { ChoosesLabel label (records_from words.now (records_at limits) records) result }
+// The label of the id's template, or, where it has none, one that no record has.
+#[tactic(auto, using(crate::proofs::Additions::label_kept, crate::proofs::Additions::label_free))]
+pub fn choose_label(records: &[[u64; RECORD_WORDS]], label: Option<u64>) -> u64
+    requires { length records.now < 1024 }
+    ensures { ChoosesLabel label (templates_of records.now) result }
 {
-    if label < (LABELS as u64) {
-        return label;
+    match label {
+        Some(held) => held,
+        None => free_label(records),
     }
-    free_label(words, records_at(limits), records)
 }
 
 // Puts a body behind the others, and its template's record behind the others, where a removal left room for both.
+// The words, no parts: `as_chunks_mut` says nothing of what the words end as.
 pub fn add_body(
     words: &mut [u64],
     bytes: &mut [u8],

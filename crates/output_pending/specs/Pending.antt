@@ -1,6 +1,5 @@
 -- A queued body against the budget (document 01, numbers 7, 8 and 22).
-use Rattle.std.specs.Prelude.{◌≡◌, Bool, false, cond, ◌&&◌, ◌||◌, [], ◌∷◌, ℕ, ltb, eqb}
-use Rattle.std.specs.Prelude.{Option, Some, None, Result, Ok, Err}
+use Rattle.std.specs.Prelude.{◌≡◌, Bool, false, cond, ◌&&◌, ◌||◌, Option, Some, None, Result, Ok, Err, [], ◌∷◌, ℕ, ltb, eqb}
 use Rattle.output_preflight.specs.declared.PendingOutputPreflight.{PendingOutputPreflight}
 use Rattle.output_preflight.specs.declared.Refusal.{Refusal}
 use Rattle.output_budget.specs.declared.DecodedOutputBudget.{DecodedOutputBudget}

@@ -113,7 +113,8 @@ pub fn validate_pending_remaining(
     fits_remaining(b, cost)
 }
 
-// The cost is committed where the body fits and the decoder reports what the preflight found: none where it failed.
+// The cost is committed where the body fits and the decoder reports what the preflight found. A decoder that failed
+// reports none.
 #[tactic(auto, using(crate::proofs::Materials::left_within), unfolding(crate::specs::Pending::materialize_told, crate::specs::Pending::materialize_budget))]
 pub fn materialize_pending(
     b: &mut DecodedOutputBudget,

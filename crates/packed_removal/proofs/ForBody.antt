@@ -1,28 +1,29 @@
 -- A removal for an offered body: whether it must pack is certain where the last body stays, and it leaves what the plan
 -- leaves, packed. Assumes nothing.
-use mathlib.Core.Path.{◌≡◌, refl, ap, ◌∙◌}
+use Rattle.std.proofs.Common.{Option, Some, slice_get}
+use Rattle.std.proofs.lemmas.Option.{none-some, get_or_from_slice_get}
+use mathlib.Core.Path.{◌≡◌, refl, sym, ap, ◌∙◌}
 use mathlib.Core.Logic.{inl, inr}
 use mathlib.Core.Bool.{Bool, true, false, cond}
 use mathlib.Core.List.{List, [], ◌∷◌, ◌++◌}
-use Prim.Native.Nat.{ℕ, ◌+◌, ◌*◌, ◌-◌, ◌≤◌, ◌<◌}
+use Prim.Native.Nat.{ℕ, ◌+◌, ◌-◌, ◌≤◌, ◌<◌}
+use native.Mathlib.Numerals.{unary_clauses}
 use native.Mathlib.Omega.{arith}
-use lib.ListN.{length, set, replicate}
-use borrow.Author.Tests.{ne_eqb}
-use Rattle.config.specs.declared.PendingFlowsConfig.{PendingFlowsConfig}
-use Rattle.config.specs.Limits.{entry_words}
+use lib.Dec.{ltb}
+use lib.ListN.{length, get_or, set, take, replicate}
+use borrow.Author.Tests.{ltb-true, ne_eqb}
 use Rattle.table.specs.declared.Entry.{Entry}
 use Rattle.table.specs.Layout.{limits_of, entry_count, entries_at}
-use Rattle.table.specs.Table.{entry_at, entries_from}
-use Rattle.table.specs.WellFormed.{well_formed, places_legal}
+use Rattle.table.specs.Table.{entries_from}
+use Rattle.table.specs.Parts.{entry_of, entries_of}
+use Rattle.table.specs.WellFormed.{places_legal}
 use Rattle.table.proofs.Facts.{LegalWords, words_say, places_hold}
 use Rattle.table_entries.specs.Pack.{last_end}
-use Rattle.table_entries.proofs.Ends.{last_end_lem}
-use Rattle.table_entries.proofs.Frames.{entries_more}
 use Rattle.entry_sweeps.specs.KeptBy.{kept_by}
 use Rattle.entry_sweeps.proofs.KeptBy.{other_than}
 use Rattle.table_records.specs.Choose.{skip_all}
-use Rattle.pending_flows.specs.declared.header.HeaderFigures.{HeaderFigures}
-use Rattle.pending_flows.specs.Header.{figures_at}
+use Rattle.pending_flows.specs.declared.header.Header.{Header}
+use Rattle.pending_flows.specs.Header.{HoldsCache}
 use Rattle.pending_calls.specs.declared.removal.Removed.{Removed}
 use Rattle.pending_calls.specs.Removal.{everything}
 use Rattle.template_removal.specs.Packing.{RemovesPacking}
@@ -54,21 +55,36 @@ kept_behind p (x ∷ xs) e h = by_test (p x) (kept_behind p xs e h)
     by_test true ih = ap (λ (l : List Entry). x ∷ l) ih
     by_test false ih = ih
 
-past_kept : (label len most m : ℕ) (w : List ℕ) → EndsPast label len most m w →
-    most < last_end (kept_by (other_than label) (entries_from w entries_at m)) + len
-past_kept label len most m w ends =
-    let k = m - 1 in
-    let e = entry_at w (entries_at + entry_words * k) in
-    let xs = entries_from w entries_at k in
-    let z : m ≡ k + 1 = omega (arith, ends.some) in
-    let all : entries_from w entries_at m ≡ xs ++ (e ∷ []) =
-    ap (entries_from w entries_at) z ∙ entries_more w entries_at k in
-    let stays : other_than label e ≡ true = rw (ne_eqb label e.label ends.other) in
-    let kept : last_end (kept_by (other_than label) (entries_from w entries_at m)) ≡ e.place + e.len =
-    ap (λ (l : List Entry). last_end (kept_by (other_than label) l)) all
-    ∙ ap last_end (kept_behind (other_than label) xs e stays)
-    ∙ last_behind (kept_by (other_than label) xs) e in
-    omega (arith, ends.past, kept, last_end_lem w m e (λ z. omega (arith, ends.some)) refl)
+past_kept : (label len most : ℕ) (es : List Entry) → EndsPast label len most es →
+    most < last_end (kept_by (other_than label) es) + len
+past_kept label len most es ends =
+    let e = ends.last in
+    let xs = ends.before in
+    let stays : other_than label e ≡ true = rw (ne_eqb label e.label ends.other) refl in
+    let kept : last_end (kept_by (other_than label) es) ≡ e.place + e.len =
+    rw (ends.behind, kept_behind (other_than label) xs e stays) (last_behind (kept_by (other_than label) xs) e) in
+    let end : last_end es ≡ e.place + e.len = rw ends.behind (last_behind xs e) in
+    omega (arith, ends.past, kept, end)
+
+parts_behind : (w : List ℕ) (ws : List (List ℕ)) → entries_of (w ∷ ws)
+    ≡ take (length ws) (entries_of (w ∷ ws)) ++ (entry_of (get_or (w ∷ ws) (length ws) []) ∷ [])
+parts_behind w [] = refl
+parts_behind w (x ∷ ws) = ap (λ (l : List Entry). entry_of w ∷ l) (parts_behind x ws)
+
+-- by the words of the last entry, where there is one
+pub ends_told : (label len most : ℕ) (ws : List (List ℕ)) (w : List ℕ) (e : Entry) (end : ℕ) →
+    Some w ≡ slice_get ws (length ws - 1) → e ≡ entry_of w → end ≡ last_end (entries_of ws) →
+    (label ≡ e.label → ⊥) → ltb most (end + len) ≡ true → EndsPast label len most (entries_of ws)
+ends_told label len most [] w e end last is ends other past = absurd (none-some _ (sym last))
+ends_told label len most (x ∷ ws) w e end last is ends other past =
+    let found = get_or_from_slice_get (x ∷ ws) (length ws) w [] (sym (simp unary_clauses at last)) in
+    record {
+      before = take (length ws) (entries_of (x ∷ ws));
+      last = e;
+      behind = rw (is, ← found) (parts_behind x ws);
+      other = other;
+      past = rw ends at (ltb-true most (end + len) past);
+    }
 
 -- ---- the removal
 
@@ -76,32 +92,34 @@ pub left_so : {clock apart len : ℕ} {plan : OfferPlan} {w b w' : List ℕ} {r 
     RemovesPlanned clock plan apart w w' r → RemovesForBody clock plan apart len w b w' b r
 left_so {w' = w'} done = record { unpacked = w'; removes = done; left = inl (refl, refl) }
 
-module _ (w b : List ℕ) (ok : well_formed w (length b) ≡ true) {f : HeaderFigures} {l : PendingFlowsConfig}
-    (figures : f ≡ figures_at w) (limits : l ≡ limits_of w) where
+module _ (w b : List ℕ) {h : Header} (holds : HoldsCache h w (length b)) where
   legal : LegalWords w (length b)
-  legal = words_say w (length b) ok
+  legal = words_say w (length b) holds.legal
 
-  pub total_placed : places_legal 0 l.max_total_bytes (entries_from w entries_at f.entries) ≡ true
-  total_placed =
-      rw (figures, limits)
+  pub total_placed : (parts : List (List ℕ)) → entries_of parts ≡ entries_from w entries_at h.figures.entries →
+      places_legal 0 h.limits.max_total_bytes (entries_of parts) ≡ true
+  total_placed parts entries =
+      rw (entries, holds.figures, holds.limits)
       (places_hold 0 (limits_of w).max_total_bytes (entries_from w entries_at (entry_count w))
       legal.table_legal_lem.entries_placed)
 
-  pub total_few : l.max_total_bytes ≤ 67108864
-  total_few = rw limits legal.limits_legal_lem.total_small
+  pub total_few : h.limits.max_total_bytes ≤ 67108864
+  total_few = rw holds.limits legal.limits_legal_lem.total_small
 
-  pub packed_for : (clock apart label len : ℕ) (plan : OfferPlan) {w' b' : List ℕ} {r : Removed} →
-      NoneExpired w clock plan → (label < 1024 → GoesAlone w plan label) → label < 1024 →
-      EndsPast label len l.max_total_bytes f.entries w →
+  pub packed_for : (clock apart label len : ℕ) (plan : OfferPlan) {x : Option ℕ} {w' b' : List ℕ} {r : Removed} →
+      NoneExpired w clock plan → ((k : ℕ) → x ≡ Some k → GoesAlone w plan k) → x ≡ Some label → {t : Bool} →
+      (parts : List (List ℕ)) → entries_of parts ≡ entries_from w entries_at h.figures.entries →
+      (t ≡ true → EndsPast label len h.limits.max_total_bytes (entries_of parts)) → t ≡ true →
       RemovesPacking everything apart (set (replicate 1024 0) label skip_all) w b w' b' r →
       RemovesForBody clock plan apart len w b w' b' r
-  packed_for clock apart label len plan {r = r} stay alone small ends done =
+  packed_for clock apart label len plan {r = r} stay alone told parts entries certain sure done =
       let are : entries_from done.unpacked entries_at r.entries
       ≡ kept_by (other_than label) (entries_from w entries_at (entry_count w)) =
-      done.removes.entries ∙ swept_is w (length b) ok label apart in
-      let past = rw (figures, limits) at (past_kept label len l.max_total_bytes f.entries w ends) in
+      done.removes.entries ∙ swept_is w (length b) holds.legal label apart in
+      let past = rw (entries, holds.figures, holds.limits)
+      at (past_kept label len h.limits.max_total_bytes (entries_of parts) (certain sure)) in
       record {
         unpacked = done.unpacked;
-        removes = alone_removed w b ok clock apart label plan stay alone small done.removes;
+        removes = alone_removed w b holds.legal clock apart label plan stay alone told done.removes;
         left = inr (record { past = rw are past; packs = done.packs });
       }

@@ -1,18 +1,20 @@
 -- Removing what the plan of an offer removes, and packing in the same pass where it is certain that the body needs it.
-use Rattle.std.specs.Prelude.{◌≡◌, ◌⊎◌, List, ℕ, ◌+◌, ◌*◌, ◌-◌, ◌<◌}
-use Rattle.config.specs.Limits.{entry_words}
+use Rattle.std.specs.Prelude.{◌≡◌, ◌⊎◌, List, [], ◌∷◌, ◌++◌, ℕ, ◌+◌, ◌<◌}
+use Rattle.table.specs.declared.Entry.{Entry}
 use Rattle.table.specs.Layout.{limits_of, entries_at}
-use Rattle.table.specs.Table.{entry_at, entries_from}
+use Rattle.table.specs.Table.{entries_from}
 use Rattle.table_entries.specs.Pack.{last_end, Packs}
 use Rattle.pending_calls.specs.declared.removal.Removed.{Removed}
 use Rattle.offer_plan.specs.declared.plan.OfferPlan.{OfferPlan}
 use Rattle.planned_removal.specs.Planned.{RemovesPlanned}
 
--- the last of m entries has another label than the one that goes, and a body of this length behind it ends past `most`
-pub record EndsPast (label len most m : ℕ) (w : List ℕ) : Type 0 where
-  pub some : 0 < m
-  pub other : label ≡ (entry_at w (entries_at + entry_words * (m - 1))).label → ⊥
-  pub past : most < last_end (entries_from w entries_at m) + len
+-- the last of the entries has another label than the one that goes, and a body of this length behind it ends past `most`
+pub record EndsPast (label len most : ℕ) (es : List Entry) : Type 0 where
+  pub before : List Entry
+  pub last : Entry
+  pub behind : es ≡ before ++ (last ∷ [])
+  pub other : label ≡ last.label → ⊥
+  pub past : most < last_end es + len
 
 -- a body of this length does not fit within `most` behind the bodies of m entries; these are packed, up to r
 pub record PacksFor (len most m : ℕ) (w b w' b' : List ℕ) (r : ℕ) : Type 0 where

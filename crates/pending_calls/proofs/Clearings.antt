@@ -9,7 +9,6 @@ use native.Mathlib.Omega.{arith}
 use lib.ListN.{length}
 use borrow.Author.Tests.{le-leb, eq-eqb}
 use Rattle.areas.specs.Overwrite.{overwritten}
-use Rattle.config.specs.declared.PendingFlowsConfig.{PendingFlowsConfig}
 use Rattle.config.specs.Limits.{config_number, words_needed, max_bodies}
 use Rattle.config.proofs.Limits.{limits_hold}
 use Rattle.table.specs.Layout.{limits_of, cached_word, dropped_word, ttl_set}
@@ -20,7 +19,8 @@ use Rattle.cache_model.specs.Cache.{done}
 use Rattle.cache_model.specs.Calls.{cleared}
 use Rattle.pending_flows.specs.View.{areas_of, cache_of, view}
 use Rattle.pending_flows.specs.declared.header.HeaderFigures.{HeaderFigures}
-use Rattle.pending_flows.specs.Header.{figures_at, header_of}
+use Rattle.pending_flows.specs.declared.header.Header.{Header}
+use Rattle.pending_flows.specs.Header.{header_at, header_of}
 use Rattle.pending_calls.specs.Promises.{Does, Clears}
 use Rattle.pending_calls.proofs.Performed.{damaged_performs, performed, untouched_all}
 use Rattle.pending_calls.proofs.Headers.{headed, headed_flag, headed_limits, headed_length, headed_behind}
@@ -54,10 +54,10 @@ module _ (w b : List ℕ) (ok : well_formed w (length b) ≡ true) where
         le-leb 0 (max_bodies l) (omega arith),
       )
 
-  pub header_emptied : (l : PendingFlowsConfig) (f : HeaderFigures) (w' : List ℕ) → l ≡ limits_of w → f ≡ figures_at w
-      → w' ≡ overwritten w (header_of l (record {
-        cached = f.cached;
-        dropped = f.dropped;
+  pub header_emptied : (h : Header) (w' : List ℕ) → h ≡ header_at w
+      → w' ≡ overwritten w (header_of h.limits (record {
+        cached = h.figures.cached;
+        dropped = h.figures.dropped;
         total = 0;
         templates = 0;
         entries = 0;
@@ -65,8 +65,8 @@ module _ (w b : List ℕ) (ok : well_formed w (length b) ≡ true) where
       }))
       → Does cleared (cache_of (table_of w) b) (areas_of w b) done (areas_of w' b)
   unfolding overwritten cleared
-  header_emptied l f w' e g x =
-      let z : w' ≡ headed (limits_of w) (emptied w) w = x ∙ rw (e, g) in
+  header_emptied h w' e x =
+      let z : w' ≡ headed (limits_of w) (emptied w) w = x ∙ rw e in
       let long : 12 ≤ length w = omega (arith, legal.header_long) in
       rw z
       (record {

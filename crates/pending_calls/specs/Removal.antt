@@ -1,11 +1,11 @@
 -- A removal: entries are swept, records closed. It is decided before, by a test and by how many bodies are skipped.
-use Rattle.std.specs.Prelude.{Option, None, ◌≡◌, false, List, ℕ, ◌+◌, ◌*◌, ◌≤◌, ◌<◌, length, get_or, set, replicate, take, drop}
+use Rattle.std.specs.Prelude.{Option, Some, None, ◌≡◌, false, List, ℕ, ◌+◌, ◌*◌, ◌≤◌, ◌<◌, length, get_or, set, replicate, take, drop}
 use Rattle.config.specs.Limits.{record_words}
 use Rattle.config.proofs.Lists.{All}
 use Rattle.table.specs.declared.Entry.{Entry}
 use Rattle.table.specs.declared.TemplateRecord.{TemplateRecord}
 use Rattle.table.specs.Layout.{limits_of, held_count, entry_count, chance_count, entries_at, records_at}
-use Rattle.table.specs.Table.{entries_from, records_from, index_from}
+use Rattle.table.specs.Table.{entries_from, records_from, index_from, tally}
 use Rattle.table_entries.specs.declared.StayTest.{StayTest}
 use Rattle.table_entries.specs.declared.sweeps.Kept.{Kept}
 use Rattle.table_entries.specs.Sums.{lens_word, summed}
@@ -45,6 +45,12 @@ pub record ClosesApart (p k apart : ℕ) (left : Kept) (kept w w' : List ℕ) (r
 pub record SkipsWhole (skip : List ℕ) (rs : List TemplateRecord) : Type 0 where
   pub long : length skip ≡ 1024
   pub whole : All (λ r. (0 < get_or skip r.label 0 → r.count ≤ get_or skip r.label 0)) rs
+
+-- None: by the test every body stays. Some: by the test the expired bodies of the label `apart` go, and so many of its
+-- bodies stay. `stay`: the entries that stay.
+abbrev pub LiveTold : Option ℕ → StayTest → ℕ → List Entry → Type 0
+LiveTold None q apart stay = q ≡ everything
+LiveTold (Some live) q apart stay = (q ≡ unexpired q.ttl q.clock apart) × (live ≡ tally apart stay)
 
 -- m entries are swept, and k records from word p on closed; the entries that stay are then `after`. The record of the
 -- label `apart` goes, its bodies stay.

@@ -7,8 +7,8 @@ ghost use Rattle.cache_model.specs.Calls.{cleared};
 ghost use Rattle.pending_flows.specs.View.{areas_of, cache_of};
 ghost use Rattle.pending_calls.specs.Promises.{Does, Clears};
 
-use pending_flows::{HeaderFigures, figures_at, write_header};
-use table::{Damaged, limits_at};
+use pending_flows::{Header, HeaderFigures};
+use table::Damaged;
 
 // Empties a well-formed cache.
 fn clear_cache(words: &mut [u64], bytes: &[u8])
@@ -16,17 +16,18 @@ fn clear_cache(words: &mut [u64], bytes: &[u8])
     ensures { Does cleared (cache_of (table_of words.old) bytes.now)
         (areas_of words.old bytes.now) done (areas_of words.new bytes.now) }
 {
-    let limits = limits_at(words);
-    let figures = figures_at(words);
-    let empty = HeaderFigures {
-        cached: figures.cached,
-        dropped: figures.dropped,
-        total: 0,
-        templates: 0,
-        entries: 0,
-        chance: 0,
+    let Header { limits, figures } = Header::read(words);
+    let empty = Header {
+        limits,
+        figures: HeaderFigures {
+            total: 0,
+            templates: 0,
+            entries: 0,
+            chance: 0,
+            ..figures
+        },
     };
-    write_header(words, limits, empty);
+    empty.write(words);
 }
 
 // Empties the cache and leaves the counters; handed-out bodies stay handed out.

@@ -7,6 +7,4 @@ mod removal;
 
 pub use clearing::clear;
 pub use counters::raised;
-pub use removal::{
-    Removed, label_test, remove, remove_expired, remove_none, remove_whole, stay_all,
-};
+pub use removal::{Removed, label_test, remove, remove_none, remove_whole, stay_all};

@@ -1,17 +1,16 @@
 // Removing bodies, once it is decided which.
-ghost use Rattle.std.specs.Prelude.{◌≡◌, true, ◌+◌, ◌*◌, ◌≤◌, length, replicate};
+ghost use Rattle.std.specs.Prelude.{◌≡◌, ◌+◌, ◌*◌, ◌≤◌, length, replicate};
 ghost use Rattle.config.specs.Limits.{record_words, entry_words};
-ghost use Rattle.table.specs.Layout.{limits_of, entries_at};
-ghost use Rattle.table.specs.Table.{entries_from, records, tally};
-ghost use Rattle.table.specs.WellFormed.{well_formed};
+ghost use Rattle.table.specs.Layout.{entries_at};
+ghost use Rattle.table.specs.Reads.{label_or_none};
+ghost use Rattle.table.specs.Table.{entries_from, records};
 ghost use Rattle.table_entries.specs.Sweep.{swept};
-ghost use Rattle.pending_flows.specs.Header.{figures_at};
-ghost use Rattle.pending_calls.specs.Removal.{everything, unexpired, ClosesApart, SkipsWhole, Removes};
-ghost use Rattle.pending_calls.specs.Removal.{RemovesFrom};
+ghost use Rattle.pending_flows.specs.Header.{HoldsCache};
+ghost use Rattle.pending_calls.specs.Removal.{everything, unexpired, ClosesApart, SkipsWhole, LiveTold};
+ghost use Rattle.pending_calls.specs.Removal.{Removes, RemovesFrom};
 
-use config::PendingFlowsConfig;
-use pending_flows::HeaderFigures;
-use table::{LABELS, records_at};
+use pending_flows::Header;
+use table::{LABELS, entries_in, label_number, records_at, records_in};
 use table_closing::close;
 use table_entries::{Kept, StayTest, sums_by_label, sweep};
 use table_promotion::take_record;
@@ -46,21 +45,24 @@ pub fn stay_all() -> StayTest
     label_test(None, 0, LABELS as u64)
 }
 
-// Closes the records by how many bodies each label has kept; the record of the label `apart` goes, and what it kept is
-// told.
+// Closes the records by how many bodies each label has kept; the record of the label `apart`, if one is told, goes, and
+// what it kept is told.
+// The words and a place, no parts: `as_chunks_mut` says nothing of what the words end as.
+#[tactic(auto, using(crate::proofs::Removals::closed_apart))]
 fn close_apart(
     words: &mut [u64],
     from: usize,
     records: usize,
     left: Kept,
     kept: &mut [u32; LABELS],
-    apart: u64,
+    apart: Option<u64>,
 ) -> Removed
     requires { (from + record_words * records ≤ length words.old) × (records ≤ 1024) }
-    ensures { ClosesApart from records apart left kept.old words.old words.new result }
+    ensures { ClosesApart from records (label_or_none apart) left kept.old words.old words.new result }
 {
-    let bodies = sum_of(kept, apart);
-    set_sum(kept, apart, 0);
+    let label = label_number(apart);
+    let bodies = sum_of(kept, label);
+    set_sum(kept, label, 0);
     let remain = close(words, from, records, kept);
     Removed {
         entries: left.entries,
@@ -71,6 +73,7 @@ fn close_apart(
 }
 
 // Sweeps the entries and closes the records; the record of the label `apart` goes though its bodies stay.
+// The words and a place, no parts: `as_chunks_mut` says nothing of what the words end as.
 pub fn remove(
     words: &mut [u64],
     from: usize,
@@ -78,87 +81,62 @@ pub fn remove(
     entries: usize,
     test: StayTest,
     skip: &mut [u32; LABELS],
-    apart: u64,
+    apart: Option<u64>,
 ) -> Removed
     requires entries_bound { (entries_at + entry_words * entries ≤ from) × (from + record_words * records ≤ length words.old) }
     requires records_bound { (records ≤ 1024) × (length skip.old ≡ 1024) }
-    ensures { Removes test from records entries apart skip.old words.old words.new result }
+    ensures { Removes test from records entries (label_or_none apart) skip.old words.old words.new
+        result }
 {
     let left = sweep(words, entries, test, skip);
     let mut kept = [0u32; LABELS];
-    sums_by_label(words, left.entries, stay_all(), false, &mut kept);
+    let stayed = entries_in(words, left.entries);
+    sums_by_label(stayed, stay_all(), false, &mut kept);
     close_apart(words, from, records, left, &mut kept, apart)
 }
 
-// The removal where every body stays by itself, and of each record all bodies are skipped or none: the records tell
-// what each label keeps, and the entries that are left are not counted.
+// The removal where of each record all bodies are skipped or none, and every other body stays; but where it is told how
+// many bodies of the label `apart` stay, its expired ones go. What each label keeps is known before the sweep, and
+// the entries that are left are not counted.
 pub fn remove_whole(
     words: &mut [u64],
     bytes: &[u8],
-    limits: PendingFlowsConfig,
-    figures: HeaderFigures,
+    header: Header,
+    test: StayTest,
     skip: &mut [u32; LABELS],
-    apart: u64,
+    apart: Option<u64>,
+    live: Option<usize>,
 ) -> Removed
-    requires bytes_value { (well_formed words.old (length bytes.now) ≡ true) × (limits ≡ limits_of words.old) }
-    requires figures_value { (figures ≡ figures_at words.old) × SkipsWhole skip.old (records words.old) }
-    ensures { RemovesFrom everything apart skip.old words.old words.new result }
+    requires header_value { HoldsCache header words.old (length bytes.now) }
+    requires skip_value { SkipsWhole skip.old (records words.old) }
+    requires live_value { LiveTold live test (label_or_none apart) (swept test skip.old (entries_from words.old entries_at
+        header.figures.entries)) }
+    ensures { RemovesFrom test (label_or_none apart) skip.old words.old words.new result }
 {
+    let Header { limits, figures } = header;
     let from = records_at(limits);
     let records = (figures.templates + figures.chance) as usize;
     let mut kept = [0u32; LABELS];
     // before the sweep, which spends what is to be skipped
-    count_whole(words, from, records, skip, &mut kept);
-    let left = sweep(words, figures.entries as usize, stay_all(), skip);
-    close_apart(words, from, records, left, &mut kept, apart)
-}
-
-// The same, but expired bodies of the label `apart` go too, and `live` is how many of it stay.
-pub fn remove_expired(
-    words: &mut [u64],
-    bytes: &[u8],
-    limits: PendingFlowsConfig,
-    figures: HeaderFigures,
-    clock: u64,
-    skip: &mut [u32; LABELS],
-    apart: u64,
-    live: usize,
-) -> Removed
-    requires bytes_value { (well_formed words.old (length bytes.now) ≡ true) × (limits ≡ limits_of words.old) }
-    requires figures_value { (figures ≡ figures_at words.old) × SkipsWhole skip.old (records words.old) }
-    requires live_value { live ≡ tally apart (swept (unexpired limits.ttl clock apart) skip.old (entries_from words.old
-        entries_at figures.entries)) }
-    ensures { RemovesFrom (unexpired limits.ttl clock apart) apart skip.old words.old
-        words.new result }
-{
-    let from = records_at(limits);
-    let records = (figures.templates + figures.chance) as usize;
-    let ttl = limits.ttl;
-    let test = label_test(ttl, clock, apart);
-    let mut kept = [0u32; LABELS];
-    // before the sweep, which spends what is to be skipped
-    count_whole(words, from, records, skip, &mut kept);
-    set_sum(&mut kept, apart, live as u32);
+    count_whole(records_in(words, from, records), skip, &mut kept);
+    if let Some(bodies) = live {
+        set_sum(&mut kept, label_number(apart), bodies as u32);
+    }
     let left = sweep(words, figures.entries as usize, test, skip);
     close_apart(words, from, records, left, &mut kept, apart)
 }
 
 // The removal where every body stays and none is handed out: no entry is looked at, and of the records only the one of
 // the label `apart` goes.
-pub fn remove_none(
-    words: &mut [u64],
-    bytes: &[u8],
-    limits: PendingFlowsConfig,
-    figures: HeaderFigures,
-    apart: u64,
-) -> Removed
-    requires bytes_value { (well_formed words.old (length bytes.now) ≡ true) × (limits ≡ limits_of words.old) }
-    requires figures_value { (figures ≡ figures_at words.old) × (figures.chance ≡ 0) }
-    ensures { RemovesFrom everything apart (replicate 1024 0) words.old words.new result }
+pub fn remove_none(words: &mut [u64], bytes: &[u8], header: Header, apart: Option<u64>) -> Removed
+    requires header_value { HoldsCache header words.old (length bytes.now) }
+    requires chance_value { header.figures.chance ≡ 0 }
+    ensures { RemovesFrom everything (label_or_none apart) (replicate 1024 0) words.old words.new result }
 {
+    let Header { limits, figures } = header;
     let from = records_at(limits);
     let records = (figures.templates + figures.chance) as usize;
-    let taken = take_record(words, from, records, apart);
+    let taken = take_record(words, from, records, label_number(apart));
     Removed {
         entries: figures.entries as usize,
         bytes: figures.total,

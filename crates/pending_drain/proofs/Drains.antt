@@ -1,6 +1,6 @@
--- The steps of a drain, with the limits, figures and label as they were read: what each step asks, and what all do.
+-- The steps of a drain, with the header and the label as they were read: what each step asks, and what all do.
 -- Assumes nothing.
-use Rattle.std.proofs.Common.{Ok, Err}
+use Rattle.std.proofs.Common.{Option, Ok, Err}
 use mathlib.Core.Path.{◌≡◌, ap}
 use mathlib.Core.Bool.{Bool, true, false}
 use mathlib.Core.List.{List}
@@ -8,7 +8,6 @@ use Prim.Native.Nat.{ℕ, ◌+◌, ◌*◌, ◌-◌, ◌%◌, ◌^◌, ◌≤◌
 use native.Mathlib.Omega.{arith}
 use lib.ListN.{length}
 use Rattle.areas.specs.Overwrite.{overwritten}
-use Rattle.config.specs.declared.PendingFlowsConfig.{PendingFlowsConfig}
 use Rattle.config.specs.Limits.{header_words, record_words}
 use Rattle.table.specs.declared.LiveFigures.{LiveFigures}
 use Rattle.table.specs.Layout.{limits_of, entries_at, records_at}
@@ -19,8 +18,8 @@ use Rattle.table.proofs.Facts.{LegalWords, words_say}
 use Rattle.table.proofs.FoundLabels.{label_for}
 use Rattle.cache_model.specs.Cache.{raised, count}
 use Rattle.cache_model.specs.Calls.{drained}
-use Rattle.pending_flows.specs.declared.header.HeaderFigures.{HeaderFigures}
-use Rattle.pending_flows.specs.Header.{figures_at, header_of}
+use Rattle.pending_flows.specs.declared.header.Header.{Header}
+use Rattle.pending_flows.specs.Header.{HoldsCache, figures_at, header_at, header_of}
 use Rattle.pending_flows.specs.View.{areas_of, cache_of}
 use Rattle.pending_flows.proofs.Figures.{handed_few}
 use Rattle.pending_calls.specs.declared.removal.Removed.{Removed}
@@ -41,91 +40,88 @@ pub record Settling (entries handed left bytes live : ℕ) (w : List ℕ) : Type
   pub less_live : live ≤ bytes
   pub header_fits : header_words ≤ length w
 
-module _ (w b : List ℕ) (i now : ℕ) (ok : well_formed w (length b) ≡ true) where
-  module _ {l : PendingFlowsConfig} {f : HeaderFigures} {p a : ℕ} (limits : l ≡ limits_of w)
-      (figures : f ≡ figures_at w)
-      (from : p ≡ records_at l) (labelled : a ≡ label_or_none (label_of i (records_from w p f.templates))) where
-    module _ {w₁ : List ℕ} {r : Removed} (out : TakesOut l.ttl now a p f w w₁ r) where
-      abbrev Ready : ℕ → Type 0
-      Ready p =
-          (0 < r.apart → p + record_words * (r.records + 1) ≤ length w₁) ×
-          (index_rises (records_from w₁ p r.records) 0 (index_from w₁ p r.records) ≡ true)
+module _ (w b : List ℕ) (i now : ℕ) {h : Header} (holds : HoldsCache h w (length b)) {p : ℕ}
+    (from : p ≡ records_at h.limits) {x : Option ℕ} (labelled : x ≡ label_of i (records_from w p h.figures.templates))
+    {w₁ : List ℕ} {r : Removed} (out : TakesOut h.limits.ttl now (label_or_none x) p h.figures w w₁ r) where
+  abbrev a : ℕ
+  a = label_or_none x
 
-      pub hand_ready : Ready p
-      hand_ready =
-          as_labelled w limits figures from i labelled (λ l f p a. TakesOut l.ttl now a p f w w₁ r → Ready p)
-          ready out
-        where
-          legal : LegalWords w (length b)
-          legal = words_say w (length b) ok
+  abbrev Ready : ℕ → Type 0
+  Ready p =
+      (0 < r.apart → p + record_words * (r.records + 1) ≤ length w₁) ×
+      (index_rises (records_from w₁ p r.records) 0 (index_from w₁ p r.records) ≡ true)
 
-          ready : TakesOut (limits_of w).ttl now (label_for i (table_of w).held) (records_at (limits_of w))
-              (figures_at w)
-              w w₁ r → Ready (records_at (limits_of w))
-          ready o = (
-            λ some. omega (
-              arith,
-              out_fewer w b i now legal o some,
-              records_within w (length b) legal,
-              o.long,
-            ),
-            (out_tied w b i now legal o).index_right,
-          )
+  pub hand_ready : Ready p
+  hand_ready =
+      as_labelled w (length b) holds from i labelled
+      (λ h p a. TakesOut h.limits.ttl now a p h.figures w w₁ r → Ready p) ready out
+    where
+      legal : LegalWords w (length b)
+      legal = words_say w (length b) holds.legal
 
-      module _ {m : LiveFigures} (read : m ≡ live_figures l.ttl now a (entries_from w entries_at f.entries))
-          (id : i < 65536) {w₂ : List ℕ} {c h : ℕ}
-          (hand : HandsOut p r.records (record { key = i; label = a; count = r.apart }) w₁ w₂ c)
-          (long : length w₂ ≡ length w) (handed : h ≡ count_sum (table_of w).handed) where
-        -- where what was taken out and handed out says it, with the limits, figures and label read
-        after_hand : (T : PendingFlowsConfig → HeaderFigures → ℕ → ℕ → Type 0) →
-            (TakesOut (limits_of w).ttl now (label_for i (table_of w).held) (records_at (limits_of w)) (figures_at w) w
-            w₁ r → HandsOut (records_at (limits_of w)) r.records
-            (record { key = i; label = label_for i (table_of w).held; count = r.apart }) w₁ w₂ c →
-            m.bytes ≡ live_lens (limits_of w).ttl now (label_for i (table_of w).held) (table_of w).entries % 2 ^ 64 →
-            T (limits_of w) (figures_at w) (records_at (limits_of w)) (label_for i (table_of w).held)) → T l f p a
-        after_hand T t =
-            as_labelled w limits figures from i labelled
-            (λ l f p a. TakesOut l.ttl now a p f w w₁ r → HandsOut p r.records
-            (record { key = i; label = a; count = r.apart }) w₁ w₂ c →
-            m.bytes ≡ live_lens l.ttl now a (entries_from w entries_at f.entries) % 2 ^ 64 → T l f p a) t out hand
-            (ap (λ (x : LiveFigures). x.bytes) read)
+      ready : TakesOut (limits_of w).ttl now (label_for i (table_of w).held) (records_at (limits_of w))
+          (figures_at w)
+          w w₁ r → Ready (records_at (limits_of w))
+      ready o = (
+        λ some. omega (
+          arith,
+          out_fewer w b i now legal o some,
+          records_within w (length b) legal,
+          o.long,
+        ),
+        (out_tied w b i now legal o).index_right,
+      )
 
-        pub settling : Settling f.entries h r.entries r.bytes m.bytes w₂
-        settling =
-            after_hand (λ l f p a. Settling f.entries h r.entries r.bytes m.bytes w₂)
-            (λ o k u. record {
-              less_handed = handed_few w b ok handed;
-              less_left = left_few w b i now ok o id k long handed u;
-              less_live = live_fits w b i now ok o id k long handed u;
-              header_fits = omega (arith, (words_say w (length b) ok).header_long);
-            })
+  module _ {m : LiveFigures} (read : m ≡ live_figures h.limits.ttl now a (entries_from w entries_at h.figures.entries))
+      (id : i < 65536) {w₂ : List ℕ} {c n : ℕ}
+      (hand : HandsOut p r.records (record { key = i; label = a; count = r.apart }) w₁ w₂ c)
+      (long : length w₂ ≡ length w) (handed : n ≡ count_sum (table_of w).handed) where
+    -- where what was taken out and handed out says it, with the header and label read
+    after_hand : (T : Header → ℕ → ℕ → Type 0) →
+        (TakesOut (limits_of w).ttl now (label_for i (table_of w).held) (records_at (limits_of w)) (figures_at w) w
+        w₁ r → HandsOut (records_at (limits_of w)) r.records
+        (record { key = i; label = label_for i (table_of w).held; count = r.apart }) w₁ w₂ c →
+        m.bytes ≡ live_lens (limits_of w).ttl now (label_for i (table_of w).held) (table_of w).entries % 2 ^ 64 →
+        T (header_at w) (records_at (limits_of w)) (label_for i (table_of w).held)) → T h p a
+    after_hand T t =
+        as_labelled w (length b) holds from i labelled
+        (λ h p a. TakesOut h.limits.ttl now a p h.figures w w₁ r → HandsOut p r.records
+        (record { key = i; label = a; count = r.apart }) w₁ w₂ c →
+        m.bytes ≡ live_lens h.limits.ttl now a (entries_from w entries_at h.figures.entries) % 2 ^ 64 → T h p a) t out
+        hand (ap (λ (x : LiveFigures). x.bytes) read)
 
-        pub drain_done : {d t : ℕ} {w₃ : List ℕ} → d ≡ raised f.dropped (f.entries - h - r.entries) →
-            t ≡ r.bytes - m.bytes →
-            w₃ ≡ overwritten w₂ (header_of l (record {
-              cached = f.cached;
-              dropped = d;
-              total = t;
-              templates = r.records;
-              entries = r.entries;
-              chance = c;
-            })) →
-            Does (drained i now) (cache_of (table_of w) b) (areas_of w b) (count r.apart) (areas_of w₃ b)
-        unfolding overwritten
-        drain_done {d} {t} {w₃} dropped total written =
-            after_hand
-            (λ l f p a. d ≡ raised f.dropped (f.entries - h - r.entries) → t ≡ r.bytes - m.bytes →
-            w₃ ≡ overwritten w₂ (header_of l (record {
-              cached = f.cached;
-              dropped = d;
-              total = t;
-              templates = r.records;
-              entries = r.entries;
-              chance = c;
-            })) →
-            Does (drained i now) (cache_of (table_of w) b) (areas_of w b) (count r.apart) (areas_of w₃ b))
-            (λ o k u x y z. rw (z, x, y) (drain_does w b i now ok o id k long handed u))
-            dropped total written
+    pub settling : Settling h.figures.entries n r.entries r.bytes m.bytes w₂
+    settling =
+        after_hand (λ h p a. Settling h.figures.entries n r.entries r.bytes m.bytes w₂)
+        (λ o k u. record {
+          less_handed = handed_few w b holds.legal handed;
+          less_left = left_few w b i now holds.legal o id k long handed u;
+          less_live = live_fits w b i now holds.legal o id k long handed u;
+          header_fits = omega (arith, (words_say w (length b) holds.legal).header_long);
+        })
+
+    -- the header that is written
+    abbrev Written : Header → ℕ → ℕ → List ℕ → Type 0
+    Written h d t w₃ =
+        w₃ ≡ overwritten w₂ (header_of h.limits (record {
+          cached = h.figures.cached;
+          dropped = d;
+          total = t;
+          templates = r.records;
+          entries = r.entries;
+          chance = c;
+        }))
+
+    pub drain_done : {d t : ℕ} {w₃ : List ℕ} → d ≡ raised h.figures.dropped (h.figures.entries - n - r.entries) →
+        t ≡ r.bytes - m.bytes → Written h d t w₃ →
+        Does (drained i now) (cache_of (table_of w) b) (areas_of w b) (count r.apart) (areas_of w₃ b)
+    unfolding overwritten
+    drain_done {d} {t} {w₃} dropped total written =
+        after_hand
+        (λ h p a. d ≡ raised h.figures.dropped (h.figures.entries - n - r.entries) → t ≡ r.bytes - m.bytes →
+        Written h d t w₃ →
+        Does (drained i now) (cache_of (table_of w) b) (areas_of w b) (count r.apart) (areas_of w₃ b))
+        (λ o k u x y z. rw (z, x, y) (drain_does w b i now holds.legal o id k long handed u)) dropped total written
 
 -- the call, behind the test of 28
 module _ (w b : List ℕ) (i now : ℕ) {v : Bool} (tested : v ≡ well_formed w (length b)) where

@@ -1,5 +1,5 @@
 -- A drain where no body goes: it takes out the record of the label alone. Assumes nothing.
-use Rattle.std.proofs.Common.{Some}
+use Rattle.std.proofs.Common.{Option, Some}
 use mathlib.Core.Path.{◌≡◌, refl, sym, ◌∙◌}
 use mathlib.Core.Bool.{Bool, true, false, cond}
 use mathlib.Core.List.{List, [], ◌∷◌, ◌++◌}
@@ -8,20 +8,18 @@ use native.Mathlib.Omega.{arith}
 use lib.Dec.{eqb}
 use lib.ListN.{length}
 use borrow.Author.Tests.{eqb-true}
-use Rattle.config.specs.declared.PendingFlowsConfig.{PendingFlowsConfig}
 use Rattle.config.proofs.Lists.{All, all_front}
 use Rattle.table.specs.declared.Entry.{Entry}
 use Rattle.table.specs.declared.TemplateRecord.{TemplateRecord}
 use Rattle.table.specs.Layout.{limits_of, held_count, chance_count, entries_at, records_at}
 use Rattle.table.specs.Table.{table_of, entries_from, records_from, tally}
 use Rattle.table.specs.Reads.{label_of, label_or_none, count_of, live_count}
-use Rattle.table.specs.WellFormed.{well_formed}
 use Rattle.table.proofs.Facts.{LegalWords, words_say}
 use Rattle.table.proofs.FoundLabels.{label_for}
 use Rattle.table_entries.specs.declared.StayTest.{StayTest}
 use Rattle.table_entries.specs.Sweep.{swept}
-use Rattle.pending_flows.specs.declared.header.HeaderFigures.{HeaderFigures}
-use Rattle.pending_flows.specs.Header.{figures_at}
+use Rattle.pending_flows.specs.declared.header.Header.{Header}
+use Rattle.pending_flows.specs.Header.{HoldsCache}
 use Rattle.pending_flows.proofs.Questions.{first_records}
 use Rattle.table_view.proofs.Tied.{words_tied, entries_small, none_above}
 use Rattle.table_view.proofs.AllStay.{none_expired, all_stay, none_skipped}
@@ -50,61 +48,64 @@ counts_label i es (r ∷ rs) right none = by_key (eqb i r.key) (counts_label i e
     by_key true ih = right.0
     by_key false ih = ih
 
-module _ (w b : List ℕ) (i : ℕ) (ok : well_formed w (length b) ≡ true) {l : PendingFlowsConfig} {f : HeaderFigures}
-    {p a : ℕ} (limits : l ≡ limits_of w) (figures : f ≡ figures_at w) (from : p ≡ records_at l)
-    (labelled : a ≡ label_or_none (label_of i (records_from w p f.templates))) where
-  legal : LegalWords w (length b)
-  legal = words_say w (length b) ok
+module _ (w b : List ℕ) (i : ℕ) {h : Header} (holds : HoldsCache h w (length b)) {p : ℕ}
+    (from : p ≡ records_at h.limits) {x : Option ℕ} (labelled : x ≡ label_of i (records_from w p h.figures.templates))
+  where
+    abbrev a : ℕ
+    a = label_or_none x
 
-  abbrev es : List Entry
-  es = (table_of w).entries
+    legal : LegalWords w (length b)
+    legal = words_say w (length b) holds.legal
 
-  abbrev held : List TemplateRecord
-  held = (table_of w).held
+    abbrev es : List Entry
+    es = (table_of w).entries
 
-  labels_small : All (λ e. e.label < 1024) es
-  labels_small =
-      let tied = words_tied w (length b) legal in
-      entries_small (held ++ (table_of w).handed) es tied.labels_small tied.labels_known
+    abbrev held : List TemplateRecord
+    held = (table_of w).held
 
-  id_counted : count_of i (records_from w p f.templates) ≡ tally a (entries_from w entries_at f.entries)
-  id_counted =
-      rw labelled
-      (as_read w limits figures from
-      (λ l f p. count_of i (records_from w p f.templates)
-      ≡ tally (label_for i (records_from w p f.templates)) (entries_from w entries_at f.entries))
-      (rw (← first_records w (records_at (limits_of w)) (held_count w) (chance_count w))
-      (counts_label i es held
-      (all_front _ held (table_of w).handed (words_tied w (length b) legal).counts_right)
-      (none_above es labels_small))))
+    labels_small : All (λ e. e.label < 1024) es
+    labels_small =
+        let tied = words_tied w (length b) legal in
+        entries_small (held ++ (table_of w).handed) es tied.labels_small tied.labels_known
 
-  module _ (clock : ℕ) {live : ℕ} (read : live ≡ live_count l.ttl clock a (entries_from w entries_at f.entries))
-      {v : Bool} (certain : v ≡ true → NothingGoes f.chance (count_of i (records_from w p f.templates)) live)
-      (said : v ≡ true) where
-    none : NothingGoes f.chance (count_of i (records_from w p f.templates)) live
-    none = certain said
+    id_counted : count_of i (records_from w p h.figures.templates) ≡ tally a (entries_from w entries_at h.figures.entries)
+    id_counted =
+        rw labelled
+        (as_read w (length b) holds from
+        (λ h p. count_of i (records_from w p h.figures.templates)
+        ≡ tally (label_for i (records_from w p h.figures.templates)) (entries_from w entries_at h.figures.entries))
+        (rw (← first_records w (records_at (limits_of w)) (held_count w) (chance_count w))
+        (counts_label i es held
+        (all_front _ held (table_of w).handed (words_tied w (length b) legal).counts_right)
+        (none_above es labels_small))))
 
-    all_live : live_count l.ttl clock a (entries_from w entries_at f.entries)
-        ≡ tally a (entries_from w entries_at f.entries)
-    all_live = sym read ∙ sym none.all_live ∙ id_counted
+    module _ (clock : ℕ) {live : ℕ} (read : live ≡ live_count h.limits.ttl clock a (entries_from w entries_at h.figures.entries))
+        {v : Bool} (certain : v ≡ true → NothingGoes h.figures.chance (count_of i (records_from w p h.figures.templates)) live)
+        (said : v ≡ true) where
+      none : NothingGoes h.figures.chance (count_of i (records_from w p h.figures.templates)) live
+      none = certain said
 
-    kept_whole : swept (unexpired l.ttl clock a) zeros (entries_from w entries_at f.entries)
-        ≡ entries_from w entries_at f.entries
-    kept_whole =
-        let q : StayTest = unexpired l.ttl clock a in
-        let rows : entries_from w entries_at f.entries ≡ es = rw figures in
-        rw rows
-        (none_skipped q es labels_small (all_stay q es refl
-        (none_expired l.ttl clock a es (rw rows at all_live)) (entries_short w (length b) ok)))
+      all_live : live_count h.limits.ttl clock a (entries_from w entries_at h.figures.entries)
+          ≡ tally a (entries_from w entries_at h.figures.entries)
+      all_live = sym read ∙ sym none.all_live ∙ id_counted
 
-    pub none_taken : {w' : List ℕ} {r : Removed} →
-        RemovesFrom everything a zeros w w' r →
-        TakesOut l.ttl clock a p f w w' r
-    none_taken {w'} {r} done =
-        let whole : swept everything zeros (entries_from w entries_at f.entries)
-        ≡ entries_from w entries_at f.entries =
-        rw figures (all_swept_stay w (length b) ok) in
-        taken_out l.ttl clock a p f w w' r (nothing_skipped p f w none.hands_none)
-        (removes_alike (whole ∙ sym kept_whole)
-        (as_read w limits figures from
-        (λ l f p. Removes everything p (f.templates + f.chance) f.entries a zeros w w' r) done))
+      kept_whole : swept (unexpired h.limits.ttl clock a) zeros (entries_from w entries_at h.figures.entries)
+          ≡ entries_from w entries_at h.figures.entries
+      kept_whole =
+          let q : StayTest = unexpired h.limits.ttl clock a in
+          let rows : entries_from w entries_at h.figures.entries ≡ es = rw holds.figures in
+          rw rows
+          (none_skipped q es labels_small (all_stay q es refl
+          (none_expired h.limits.ttl clock a es (rw rows at all_live)) (entries_short w (length b) holds.legal)))
+
+      pub none_taken : {w' : List ℕ} {r : Removed} →
+          RemovesFrom everything a zeros w w' r →
+          TakesOut h.limits.ttl clock a p h.figures w w' r
+      none_taken {w'} {r} done =
+          let whole : swept everything zeros (entries_from w entries_at h.figures.entries)
+          ≡ entries_from w entries_at h.figures.entries =
+          rw holds.figures (all_swept_stay w (length b) holds.legal) in
+          taken_out h.limits.ttl clock a p h.figures w w' r (nothing_skipped p h.figures w none.hands_none)
+          (removes_alike (whole ∙ sym kept_whole)
+          (as_read w (length b) holds from
+          (λ h p. Removes everything p (h.figures.templates + h.figures.chance) h.figures.entries a zeros w w' r) done))

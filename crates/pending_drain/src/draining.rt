@@ -1,23 +1,25 @@
 // Draining a template.
 ghost use Rattle.std.specs.Prelude.{◌≡◌, true, ◌+◌, ◌*◌, ◌-◌, ◌≤◌, ◌<◌, length};
 ghost use Rattle.config.specs.Limits.{record_words};
-ghost use Rattle.table.specs.Layout.{limits_of, entries_at, records_at};
+ghost use Rattle.table.specs.Layout.{entries_at, records_at};
 ghost use Rattle.table.specs.Table.{table_of, entries_from, records_from, index_from};
+ghost use Rattle.table.specs.Parts.{templates_of};
 ghost use Rattle.table.specs.Reads.{label_of, label_or_none, count_of, live_count};
 ghost use Rattle.table.specs.WellFormed.{index_rises, well_formed};
 ghost use Rattle.cache_model.specs.Cache.{count, raised};
 ghost use Rattle.cache_model.specs.Calls.{drained};
-ghost use Rattle.pending_flows.specs.Header.{figures_at};
+ghost use Rattle.pending_flows.specs.Header.{HoldsCache};
 ghost use Rattle.pending_flows.specs.View.{areas_of, cache_of};
 ghost use Rattle.pending_calls.specs.Promises.{Does};
 ghost use Rattle.pending_drain.specs.Handing.{NothingGoes, TakesOut, HandsOut};
 ghost use Rattle.pending_drain.specs.Promises.{Drains};
 
-use config::{PendingFlowsConfig, RECORD_WORDS};
-use pending_calls::{Removed, raised, remove_expired, remove_none};
-use pending_flows::{HeaderFigures, figures_at, handed_count, write_header};
+use config::RECORD_WORDS;
+use pending_calls::{Removed, label_test, raised, remove_none, remove_whole};
+use pending_flows::{Header, HeaderFigures, handed_count};
 use table::{
-    Damaged, LABELS, TemplateRecord, count_of, label_for, limits_at, live_figures, records_at,
+    Damaged, LABELS, TemplateRecord, count_of, entries_in, label_number, label_of, live_figures,
+    records_at, records_in,
 };
 use table_promotion::add_record;
 use table_records::skip_records;
@@ -41,15 +43,14 @@ fn total_after(left: u64, handed: u64) -> u64
 
 // Whether it is certain that no body goes: nothing is handed out, and as many bodies of the id are live as its record
 // counts.
-fn nothing_goes(words: &[u64], from: usize, figures: HeaderFigures, id: u64, live: usize) -> bool
-    requires { from + record_words * figures.templates ≤ length words.now }
-    ensures { result ≡ true → NothingGoes figures.chance (count_of id (records_from words.now from
-        figures.templates)) live }
+#[tactic(auto, using(crate::proofs::NoneTaken::as_counted))]
+fn nothing_goes(held: &[[u64; RECORD_WORDS]], figures: HeaderFigures, id: u64, live: usize) -> bool
+    ensures { result ≡ true → NothingGoes figures.chance (count_of id (templates_of held.now)) live }
 {
     if 0 < figures.chance {
         return false;
     }
-    let bodies = count_of(words, from, figures.templates as usize, id);
+    let bodies = count_of(held, id);
     bodies == (live as u64)
 }
 
@@ -58,34 +59,42 @@ fn nothing_goes(words: &[u64], from: usize, figures: HeaderFigures, id: u64, liv
 fn take_label(
     words: &mut [u64],
     bytes: &[u8],
-    limits: PendingFlowsConfig,
-    figures: HeaderFigures,
+    header: Header,
     from: usize,
     id: u64,
     clock: u64,
-    label: u64,
+    label: Option<u64>,
     live: usize,
 ) -> Removed
-    requires bytes_value { (well_formed words.old (length bytes.now) ≡ true) × (limits ≡ limits_of words.old) }
-    requires figures_value { (figures ≡ figures_at words.old) × (from ≡ records_at limits) }
-    requires label_value { label ≡ label_or_none (label_of id (records_from words.old from figures.templates)) }
-    requires live_value { live ≡ live_count limits.ttl clock label (entries_from words.old entries_at figures.entries) }
-    ensures { TakesOut limits.ttl clock label from figures words.old words.new result }
+    requires header_value { HoldsCache header words.old (length bytes.now) }
+    requires from_value { from ≡ records_at header.limits }
+    requires label_value { label ≡ label_of id (records_from words.old from header.figures.templates) }
+    requires live_value { live ≡ live_count header.limits.ttl clock (label_or_none label) (entries_from words.old
+        entries_at header.figures.entries) }
+    ensures { TakesOut header.limits.ttl clock (label_or_none label) from header.figures words.old
+        words.new result }
 {
-    if nothing_goes(words, from, figures, id, live) {
-        return remove_none(words, bytes, limits, figures, label);
+    let Header { limits, figures } = header;
+    let held = records_in(words, from, figures.templates as usize);
+    if nothing_goes(held, figures, id, live) {
+        return remove_none(words, bytes, header, label);
     }
+    let number = label_number(label);
     if figures.chance == 0 {
-        return remove_expired_of(words, bytes, limits, figures, clock, label);
+        return remove_expired_of(words, bytes, header, clock, number);
     }
-    let handed = from + RECORD_WORDS * (figures.templates as usize);
+    let behind = from + RECORD_WORDS * (figures.templates as usize);
+    let handed = records_in(words, behind, figures.chance as usize);
     let mut skip = [0u32; LABELS];
-    skip_records(words, handed, figures.chance as usize, &mut skip);
-    remove_expired(words, bytes, limits, figures, clock, &mut skip, label, live)
+    skip_records(handed, &mut skip);
+    let test = label_test(limits.ttl, clock, number);
+    remove_whole(words, bytes, header, test, &mut skip, label, Some(live))
 }
 
 // Adds the record of what is handed out behind the held ones, if there is a body; whether there is, as the header
 // says it.
+// The words and a place, no parts: `as_chunks_mut` says nothing of what the words end as.
+#[tactic(auto, using(crate::proofs::Handing::nothing_handed, crate::proofs::Handing::some_handed))]
 fn hand_out(words: &mut [u64], from: usize, records: usize, template: TemplateRecord) -> u64
     requires records_in_bounds { 0 < template.count → from + record_words * (records + 1) ≤ length words.old }
     requires records_value { index_rises (records_from words.old from records) 0 (index_from words.old from records) ≡ true }
@@ -105,27 +114,19 @@ fn drain_cache(words: &mut [u64], bytes: &[u8], id: u64, clock: u64) -> usize
         (areas_of words.old bytes.now) (count result)
         (areas_of words.new bytes.now) }
 {
-    let limits = limits_at(words);
-    let figures = figures_at(words);
+    let header = Header::read(words);
+    let Header { limits, figures } = header;
     let handed = handed_count(words, bytes, limits);
     let from = records_at(limits);
-    let label = label_for(words, from, figures.templates as usize, id);
-    let ttl = limits.ttl;
-    let live = live_figures(words, figures.entries as usize, label, ttl, clock);
-    let removed = take_label(
-        words,
-        bytes,
-        limits,
-        figures,
-        from,
-        id,
-        clock,
-        label,
-        live.bodies,
-    );
+    let held = records_in(words, from, figures.templates as usize);
+    let label = label_of(held, id);
+    let number = label_number(label);
+    let known = entries_in(words, figures.entries as usize);
+    let live = live_figures(known, number, limits.ttl, clock);
+    let removed = take_label(words, bytes, header, from, id, clock, label, live.bodies);
     let template = TemplateRecord {
         key: id,
-        label,
+        label: number,
         count: removed.apart as u64,
     };
     let chance = hand_out(words, from, removed.records, template);
@@ -138,7 +139,11 @@ fn drain_cache(words: &mut [u64], bytes: &[u8], id: u64, clock: u64) -> usize
         entries,
         chance,
     };
-    write_header(words, limits, after);
+    let drained = Header {
+        limits,
+        figures: after,
+    };
+    drained.write(words);
     removed.apart as usize
 }
 

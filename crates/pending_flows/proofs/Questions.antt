@@ -13,11 +13,21 @@ use Rattle.table.specs.Table.{table_of, tally}
 use Rattle.table.specs.WellFormed.{well_formed}
 use Rattle.table.proofs.Facts.{LegalWords, words_say}
 use Rattle.table.proofs.Labels.{absent_tally}
+use Rattle.pending_flows.specs.declared.header.Header.{Header}
+use Rattle.pending_flows.specs.Header.{HoldsCache, header_at}
 pub use Rattle.table.proofs.Words.{first_records}
 
 -- what was tested is known
 pub well_formed_lem : (w : List ℕ) (n : ℕ) {v : Bool} → v ≡ well_formed w n → v ≡ true → well_formed w n ≡ true
 well_formed_lem w n e h = sym e ∙ h
+
+-- the header that is read of a well-formed cache is its header
+pub header_read : (w : List ℕ) (n : ℕ) {h : Header} → well_formed w n ≡ true → h ≡ header_at w → HoldsCache h w n
+header_read w n ok e = record {
+  legal = ok;
+  limits = ap (λ (h : Header). h.limits) e;
+  figures = ap (λ (h : Header). h.figures) e;
+}
 
 -- what the words of a well-formed table hold is within them, and what is no label is no entry's
 module _ (w : List ℕ) (n : ℕ) (ok : well_formed w n ≡ true) where

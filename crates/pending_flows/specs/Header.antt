@@ -1,9 +1,11 @@
 -- The header of a cache: the first words, in the layout's order.
 use Rattle.std.specs.Prelude.{Option, Some, None}
-use Rattle.std.specs.Prelude.{List, [], ◌∷◌, ℕ}
+use Rattle.std.specs.Prelude.{◌≡◌, List, [], ◌∷◌, ℕ, true}
 use Rattle.config.specs.declared.PendingFlowsConfig.{PendingFlowsConfig}
-use Rattle.table.specs.Layout.{cached_word, dropped_word, total_word, held_count, entry_count, chance_count}
+use Rattle.table.specs.Layout.{limits_of, cached_word, dropped_word, total_word, held_count, entry_count, chance_count}
+use Rattle.table.specs.WellFormed.{well_formed}
 use Rattle.pending_flows.specs.declared.header.HeaderFigures.{HeaderFigures}
+use Rattle.pending_flows.specs.declared.header.Header.{Header}
 
 -- whether a TTL is set, and the TTL, as words
 abbrev pub ttl_flag : Option ℕ → ℕ
@@ -29,11 +31,25 @@ figures_at w = record {
   chance = chance_count w;
 }
 
+-- the header that words hold
+abbrev pub header_at : List ℕ → Header
+header_at w = record { limits = limits_of w; figures = figures_at w }
+
+-- the areas, with so many bytes, hold a well-formed cache, and this is its header
+pub record HoldsCache (h : Header) (w : List ℕ) (bytes : ℕ) : Type 0 where
+  pub legal : well_formed w bytes ≡ true
+  pub limits : h.limits ≡ limits_of w
+  pub figures : h.figures ≡ figures_at w
+
+-- the header's words
 abbrev pub header_of : PendingFlowsConfig → HeaderFigures → List ℕ
 header_of l f =
     l.max_pending_flows ∷ l.max_entries_per_template ∷ l.max_entry_size_bytes ∷ l.max_total_bytes
     ∷ ttl_flag l.ttl ∷ ttl_word l.ttl ∷ f.cached ∷ f.dropped ∷ f.total ∷ f.templates ∷ f.entries
     ∷ f.chance ∷ []
+
+abbrev pub words_of : Header → List ℕ
+words_of h = header_of h.limits h.figures
 
 -- of a newly opened cache
 abbrev pub no_figures : HeaderFigures

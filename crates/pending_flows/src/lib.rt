@@ -6,5 +6,5 @@ mod header;
 mod opening;
 
 pub use chance::handed_count;
-pub use header::{HeaderFigures, figures_at, write_header};
+pub use header::{Header, HeaderFigures};
 pub use opening::open;

@@ -2,7 +2,7 @@
 ghost use Rattle.pending_flows.specs.View.{areas_of};
 ghost use Rattle.pending_flows.specs.Opening.{Opens};
 
-use super::header::{HeaderFigures, write_header};
+use super::header::{Header, HeaderFigures};
 use config::{ConfigRefusal, PendingFlowsConfig};
 
 // Opens an empty cache with both counters 0 in areas with any content, or refuses the limits.
@@ -15,7 +15,7 @@ pub fn open(
         (areas_of words.new bytes.now) }
 {
     config::validate_config(config, bytes.len(), words.len())?;
-    let empty = HeaderFigures {
+    let figures = HeaderFigures {
         cached: 0,
         dropped: 0,
         total: 0,
@@ -23,6 +23,10 @@ pub fn open(
         entries: 0,
         chance: 0,
     };
-    write_header(words, config, empty);
+    let empty = Header {
+        limits: config,
+        figures,
+    };
+    empty.write(words);
     Ok(())
 }

@@ -251,7 +251,3 @@ module _ (w b : List ℕ) (k : ℕ) (r : Result BodyPlace PlaceRefusal) (places 
           take p.len (drop p.place b) ≡ shown (asked (read_handed_out k) v)
       by_view none e g = let z : ◌≡◌ {A = ℕ} 0 1 = cc in absurd (omega arith)
       by_view (some c) e g = by_count c (ltb k (length c.chance.bodies)) e (g c refl)
-
-  -- the part is within the bytes
-  pub part_within : (p : BodyPlace) → r ≡ Ok p → p.place + p.len ≤ length b
-  part_within p h = places.inside p h

@@ -11,14 +11,13 @@ use lib.ListN.{length, drop, length-append, length-map}
 use borrow.Author.Tests.{eqb-true, eq-eqb, ne_eqb}
 use Rattle.areas.specs.Overwrite.{put_at}
 use Rattle.areas.proofs.Puts.{length_put, drop_put_from}
-use Rattle.config.specs.declared.PendingFlowsConfig.{PendingFlowsConfig}
 use Rattle.config.specs.Limits.{max_bodies}
 use Rattle.config.proofs.Lists.{All, all_map}
 use Rattle.table.specs.declared.Entry.{Entry}
 use Rattle.table.specs.declared.TemplateRecord.{TemplateRecord}
 use Rattle.table.specs.Layout.{limits_of, entries_at, records_at}
 use Rattle.table.specs.Table.{Table, table_of, entries_from, records_from, index_from, has_label, tally, sum_lens}
-use Rattle.table.specs.WellFormed.{well_formed}
+use Rattle.table.specs.Reads.{label_or_none}
 use Rattle.table.proofs.Words.{length_records, length_entries}
 use Rattle.table.proofs.Facts.{Placed, LegalWords, words_say}
 use Rattle.table.proofs.Labels.{absent_says}
@@ -33,6 +32,8 @@ use Rattle.cache_model.specs.Offer.{settled}
 use Rattle.cache_model.proofs.Weights.{sum_append, sum_templates_lem}
 use Rattle.cache_model.proofs.Calls.{Limited}
 use Rattle.cache_model.proofs.Thinning.{thinned}
+use Rattle.pending_flows.specs.declared.header.Header.{Header}
+use Rattle.pending_flows.specs.Header.{HoldsCache}
 use Rattle.pending_flows.specs.View.{cache_of, bodies_at, template_at, templates_at}
 use Rattle.table_view.proofs.Tied.{Tied, TiedApart}
 use Rattle.table_view.proofs.Swept.{placed_within}
@@ -83,24 +84,23 @@ lens_apart {a} {rs} {es} b most h placed lent =
       sum_templates_lem size (templates_at b es rs) (template_at b es r ∷ []),
     )
 
--- The words w, the bytes b and the limits l' before the offer of a body under the id i; the plan; the words that the
+-- The words w, the bytes b and their header h before the offer of a body under the id i; the plan; the words that the
 -- removal leaves; the label that is chosen.
-pub record Accepting (w b : List ℕ) (l' : PendingFlowsConfig) (i : ℕ) (body : List ℕ) (clock : ℕ) (plan : OfferPlan)
-    (w₁ : List ℕ) (left : Removed) (a : ℕ) : Type 0 where
-  pub ok : well_formed w (length b) ≡ true
-  pub limits : l' ≡ limits_of w
+pub record Accepting (w b : List ℕ) (h : Header) (i : ℕ) (body : List ℕ) (clock : ℕ) (plan : OfferPlan) (w₁ : List ℕ)
+    (left : Removed) (a : ℕ) : Type 0 where
+  pub holds : HoldsCache h w (length b)
   pub id : i < 65536
   pub small : length body ≤ (limits_of w).max_entry_size_bytes
   pub plans : Plans w b i (length body) clock plan
   pub room : plan.full ≡ false
-  pub removed : RemovesPlanned clock plan plan.label w w₁ left
+  pub removed : RemovesPlanned clock plan (label_or_none plan.label) w w₁ left
   pub long : length w₁ ≡ length w
-  pub label : ChoosesLabel plan.label (records_from w₁ (records_at l') left.records) a
+  pub label : ChoosesLabel plan.label (records_from w₁ (records_at h.limits) left.records) a
 
-module _ {w b : List ℕ} {l' : PendingFlowsConfig} {i : ℕ} {body : List ℕ} {clock : ℕ} {plan : OfferPlan}
-    {w₁ : List ℕ} {left : Removed} {a : ℕ} (known : Accepting w b l' i body clock plan w₁ left a) where
+module _ {w b : List ℕ} {h : Header} {i : ℕ} {body : List ℕ} {clock : ℕ} {plan : OfferPlan} {w₁ : List ℕ}
+    {left : Removed} {a : ℕ} (known : Accepting w b h i body clock plan w₁ left a) where
   legal : LegalWords w (length b)
-  legal = words_say w (length b) known.ok
+  legal = words_say w (length b) known.holds.legal
 
   abbrev most : ℕ
   most = (limits_of w).max_total_bytes
@@ -113,20 +113,20 @@ module _ {w b : List ℕ} {l' : PendingFlowsConfig} {i : ℕ} {body : List ℕ} 
 
   -- what the plan leaves of the id's bodies, and what it leaves of the other ids' templates
   abbrev own : List Body
-  own = leaves w b known.ok i x known.small i (bodies_of i ts)
+  own = leaves w b known.holds.legal i x known.small i (bodies_of i ts)
 
   abbrev rest : List Template
-  rest = thinned (others w b known.ok i x known.small) ts
+  rest = thinned (others w b known.holds.legal i x known.small) ts
 
   abbrev newest : Template
   newest = record { id = i; bodies = own ++ (x ∷ []) }
 
   -- what is held afterwards by the definition
   abbrev held : List Template
-  held = (outcome w b known.ok i x known.small).left.held
+  held = (outcome w b known.holds.legal i x known.small).left.held
 
   held_is : held ≡ rest ++ (newest ∷ [])
-  held_is = accepted_held w b known.ok i x known.small known.plans known.room
+  held_is = accepted_held w b known.holds.legal i x known.small known.plans known.room
 
   -- the rows that the removal leaves
   abbrev es : List Entry
@@ -139,20 +139,20 @@ module _ {w b : List ℕ} {l' : PendingFlowsConfig} {i : ℕ} {body : List ℕ} 
   is = index_from w₁ (records_at (limits_of w)) left.records
 
   pub placed_before : Placed 0 most es
-  placed_before = left_placed w b known.ok i clock (length body) plan.label known.plans known.removed
+  placed_before = left_placed w b known.holds.legal i clock (length body) (label_or_none plan.label) known.plans known.removed
 
   pub chosen : Chosen (records_at (limits_of w)) left w₁ b own a
-  chosen = label_chosen w b known.ok i x known.small known.plans known.room known.removed
-      (rw known.limits at known.label)
+  chosen = label_chosen w b known.holds.legal i x known.small known.plans known.room known.removed
+      (rw known.holds.limits at known.label)
 
   rest_is : templates_at b es rs ≡ rest
-  rest_is = others_left w b known.ok i x known.small known.plans known.room known.removed
+  rest_is = others_left w b known.holds.legal i x known.small known.plans known.room known.removed
 
   fresh : All (λ u. u.key ≢ i) rs
-  fresh = fresh_left w b known.ok i x known.small known.plans known.room known.removed
+  fresh = fresh_left w b known.holds.legal i x known.small known.plans known.room known.removed
 
   pub records_few : left.records < (limits_of w).max_pending_flows
-  records_few = few_left w b known.ok i x known.small known.plans known.room known.removed
+  records_few = few_left w b known.holds.legal i x known.small known.plans known.room known.removed
 
   -- all bodies together leave room for the new one
   pub body_room : packed_end 0 es + length body ≤ most
@@ -160,7 +160,7 @@ module _ {w b : List ℕ} {l' : PendingFlowsConfig} {i : ℕ} {body : List ℕ} 
   body_room =
       omega (
         arith,
-        (settled_limited w b known.ok i x known.small).within.room,
+        (settled_limited w b known.holds.legal i x known.small).within.room,
         packed_end_lem 0 es,
         lens_apart b most chosen.tied placed_before legal.limits_legal_lem.bytes_enough,
         ap (sum_templates size) rest_is,
@@ -172,7 +172,7 @@ module _ {w b : List ℕ} {l' : PendingFlowsConfig} {i : ℕ} {body : List ℕ} 
       )
 
   bytes_are : left.bytes ≡ lens_sum es
-  bytes_are = left_bytes w b known.ok i clock (length body) plan.label known.plans known.removed
+  bytes_are = left_bytes w b known.holds.legal i clock (length body) (label_or_none plan.label) known.plans known.removed
 
   pub total_fits : left.bytes + length body < 2 ^ 64
   total_fits = omega (arith, bytes_are, packed_end_lem 0 es, body_room, legal.limits_legal_lem.total_small)
@@ -288,7 +288,7 @@ module _ {w b : List ℕ} {l' : PendingFlowsConfig} {i : ℕ} {body : List ℕ} 
   table_limited : Limited (cache_of table bytes_after)
   unfolding settled
   table_limited =
-      let after = settled_limited w b known.ok i x known.small in
+      let after = settled_limited w b known.holds.legal i x known.small in
       record { legal = after.legal; within = rw held_after after.within }
 
   pub entries_few : left.entries < max_bodies (limits_of w)

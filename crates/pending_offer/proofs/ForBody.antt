@@ -1,5 +1,6 @@
 -- What a removal for the offered body leaves, packed or not: the same room, and the body is added to it as to what the
 -- plan leaves. Assumes nothing.
+use Rattle.std.proofs.Common.{Option}
 use mathlib.Core.Path.{◌≡◌, sym, ap, ◌∙◌}
 use mathlib.Core.Logic.{inl, inr}
 use mathlib.Core.Bool.{true, false}
@@ -15,16 +16,20 @@ use Rattle.table.specs.declared.Entry.{Entry}
 use Rattle.table.specs.declared.TemplateRecord.{TemplateRecord}
 use Rattle.table.specs.Layout.{limits_of, entries_at, records_at}
 use Rattle.table.specs.Table.{entries_from, records_from, index_from}
+use Rattle.table.specs.Parts.{templates_of}
+use Rattle.table.specs.Reads.{label_or_none}
 use Rattle.table.specs.WellFormed.{well_formed}
 use Rattle.table.proofs.Facts.{words_say, places_hold}
 use Rattle.table_entries.specs.Pack.{last_end, packed_entries, packed_end}
 use Rattle.table_entries.proofs.Packed.{packed_placed, last_packed, packed_again}
 use Rattle.table_records.proofs.Frames.{records_above, index_above}
+use Rattle.pending_flows.specs.declared.header.Header.{Header}
+use Rattle.pending_flows.specs.Header.{HoldsCache}
 use Rattle.pending_calls.specs.declared.removal.Removed.{Removed}
 use Rattle.pending_calls.proofs.RemovedLemmas.{entries_below_records}
 use Rattle.offer_plan.specs.declared.plan.OfferPlan.{OfferPlan}
 use Rattle.offer_plan.specs.Plan.{Plans}
-use Rattle.offer_steps.specs.Room.{fits_behind, RoomFor, AddsBody, LabelRoom, ChoosesLabel}
+use Rattle.offer_steps.specs.Room.{fits_behind, RoomFor, AddsBody, ChoosesLabel}
 use Rattle.packed_removal.specs.ForBody.{PacksFor, LeftFor, RemovesForBody}
 use Rattle.pending_offer.proofs.Accepted.{Accepting}
 
@@ -112,13 +117,13 @@ module _ {l : PendingFlowsConfig} {k m : ℕ} (body : List ℕ) {w b w' b' : Lis
 -- the label is chosen by the records, which packing leaves as they are
 records_left : {len most m : ℕ} {w b w' b' : List ℕ} {end : ℕ} (p k : ℕ) → entries_at + entry_words * m ≤ p →
     LeftFor len most m w b w' b' end → records_from w' p k ≡ records_from w p k
-records_left p k below (inl same) = ap (λ (v : List ℕ). records_from v p k) same.0
-records_left {m = m} {w} {w' = w'} p k below (inr packs) =
-    records_above w' w p k (entries_at + entry_words * m) below packs.packs.tail
+records_left p k _ (inl same) = ap (λ (v : List ℕ). records_from v p k) same.0
+records_left {m = m} {w} {w' = w'} p k room (inr packs) =
+    records_above w' w p k (entries_at + entry_words * m) room packs.packs.tail
 
 pub label_left : (w : List ℕ) (n : ℕ) (ok : well_formed w n ≡ true) {l : PendingFlowsConfig} → l ≡ limits_of w →
     {clock apart len : ℕ} {plan : OfferPlan} {b w' b' : List ℕ} {r : Removed} →
-    (done : RemovesForBody clock plan apart len w b w' b' r) → {label a : ℕ} →
+    (done : RemovesForBody clock plan apart len w b w' b' r) → {label : Option ℕ} {a : ℕ} →
     ChoosesLabel label (records_from w' (records_at l) r.records) a →
     ChoosesLabel label (records_from done.unpacked (records_at l) r.records) a
 label_left w n ok {l} limits {r = r} done chosen =
@@ -126,27 +131,21 @@ label_left w n ok {l} limits {r = r} done chosen =
     rw limits (omega (arith, done.removes.few_entries, entries_below_records w n (words_say w n ok))) in
     rw (records_left (records_at l) r.records below done.left) at chosen
 
-pub label_room_left : {l : PendingFlowsConfig} {k : ℕ} {w w' : List ℕ} → length w' ≡ length w → LabelRoom l k w →
-    LabelRoom l k w'
-label_room_left long room =
-    record { few = room.few; bodies_few = room.bodies_few; within = omega (arith, room.within) }
-
 -- what is known once the label is chosen
-pub accepting : (w b : List ℕ) {l' : PendingFlowsConfig} {i : ℕ} {body : List ℕ} {clock : ℕ} {plan : OfferPlan}
-    {w' b' : List ℕ} {r : Removed} {a : ℕ} → (well_formed w (length b) ≡ true) × (l' ≡ limits_of w) →
-    length body ≤ (limits_of w).max_entry_size_bytes →
+pub accepting : (w b : List ℕ) {h : Header} {i : ℕ} {body : List ℕ} {clock : ℕ} {plan : OfferPlan} {w' b' : List ℕ}
+    {r : Removed} {a : ℕ} → HoldsCache h w (length b) → length body ≤ (limits_of w).max_entry_size_bytes →
     Plans w b i (length body) clock plan × ((plan.full ≡ false) × (i < 65536)) →
-    (done : RemovesForBody clock plan plan.label (length body) w b w' b' r) →
-    ChoosesLabel plan.label (records_from w' (records_at l') r.records) a →
-    Accepting w b l' i body clock plan done.unpacked r a
-accepting w b ok small plans done chosen = record {
-  ok = ok.0;
-  limits = ok.1;
+    (done : RemovesForBody clock plan (label_or_none plan.label) (length body) w b w' b' r) →
+    {p : ℕ} → p ≡ records_at h.limits → (parts : List (List ℕ)) → templates_of parts ≡ records_from w' p r.records →
+    ChoosesLabel plan.label (templates_of parts) a →
+    Accepting w b h i body clock plan done.unpacked r a
+accepting w b holds small plans done from parts rows chosen = record {
+  holds = holds;
   id = plans.1.1;
   small = small;
   plans = plans.0;
   room = plans.1.0;
   removed = done.removes;
   long = done.removes.long;
-  label = label_left w (length b) ok.0 ok.1 done chosen;
+  label = label_left w (length b) holds.legal holds.limits done (rw (rows, from) at chosen);
 }

@@ -33,7 +33,8 @@ use Rattle.cache_model.proofs.Parts.{sub_keep}
 use Rattle.cache_model.proofs.Plans.{thin}
 use Rattle.cache_model.proofs.Thinning.{thinned}
 use Rattle.pending_flows.specs.declared.header.HeaderFigures.{HeaderFigures}
-use Rattle.pending_flows.specs.Header.{figures_at}
+use Rattle.pending_flows.specs.declared.header.Header.{Header}
+use Rattle.pending_flows.specs.Header.{HoldsCache}
 use Rattle.pending_flows.specs.View.{bodies_at, templates_at, cache_of}
 use Rattle.pending_flows.proofs.Templates.{length_bodies}
 use Rattle.table_view.proofs.Swept.{Within, body_stays, placed_within, swept_bodies, swept_tally}
@@ -123,11 +124,11 @@ module _ (w b : List ℕ) (ok : well_formed w (length b) ≡ true) (clock : ℕ)
             )
 
     -- so where every body stays, nothing is handed out
-    pub none_handed : {f : HeaderFigures} → f ≡ figures_at w → plan.none ≡ true → f.chance ≡ 0
-    none_handed figures none =
+    pub none_handed : {h : Header} → HoldsCache h w (length b) → plan.none ≡ true → h.figures.chance ≡ 0
+    none_handed holds none =
         omega (
           arith,
-          ap (λ (g : HeaderFigures). g.chance) figures,
+          ap (λ (g : HeaderFigures). g.chance) holds.figures,
           no_records handed handed_legal handed_leaving,
           length-drop (held_count w) (records w),
           length_records w (records_at (limits_of w)) (held_count w + chance_count w),

@@ -21,8 +21,9 @@ use Rattle.table_check.specs.Examined.{examined}
 use Rattle.table_check.proofs.LiveSought.{live_counted}
 use Rattle.cache_model.specs.Cache.{Cache, done, number, raised}
 use Rattle.cache_model.specs.Offer.{offered}
+use Rattle.pending_flows.specs.declared.header.Header.{Header}
 use Rattle.pending_flows.specs.View.{Areas, areas_of, cache_of}
-use Rattle.pending_flows.specs.Header.{dropped_at}
+use Rattle.pending_flows.specs.Header.{HoldsCache, dropped_at}
 use Rattle.pending_flows.proofs.Questions.{none_unlabelled}
 use Rattle.pending_calls.specs.Promises.{Does}
 use Rattle.pending_calls.proofs.Performed.{damaged_performs, performed, untouched_all}
@@ -32,13 +33,13 @@ use Rattle.pending_offer.specs.Promises.{body_of, Offers, DoesOffer}
 use Rattle.pending_offer.proofs.TooLong.{too_long_does}
 
 -- a body that is not too long fits in an empty cache
-pub size_within : (w : List ℕ) (n len : ℕ) (l : PendingFlowsConfig) → well_formed w n ≡ true → l ≡ limits_of w →
-    len ≤ (limits_of w).max_entry_size_bytes → len ≤ l.max_total_bytes
-size_within w n len l ok is small =
+pub size_within : (w : List ℕ) (n len : ℕ) {h : Header} → HoldsCache h w n →
+    len ≤ (limits_of w).max_entry_size_bytes → len ≤ h.limits.max_total_bytes
+size_within w n len holds small =
     omega (
       arith,
-      (words_say w n ok).limits_legal_lem.size_within,
-      ap (λ (k : PendingFlowsConfig). k.max_total_bytes) is,
+      (words_say w n holds.legal).limits_legal_lem.size_within,
+      ap (λ (k : PendingFlowsConfig). k.max_total_bytes) holds.limits,
     )
 
 module _ (i : ℕ) (body : List ℕ) (clock : ℕ) (c : Cache) (a a' : Areas) where

@@ -30,7 +30,8 @@ use Rattle.cache_model.proofs.Calls.{Limited, limited, settled_within}
 use Rattle.cache_model.proofs.Drops.{offer_drops}
 use Rattle.pending_flows.specs.View.{areas_of, cache_of, view, templates_at, chance_at}
 use Rattle.pending_flows.specs.declared.header.HeaderFigures.{HeaderFigures}
-use Rattle.pending_flows.specs.Header.{figures_at, header_of}
+use Rattle.pending_flows.specs.declared.header.Header.{Header}
+use Rattle.pending_flows.specs.Header.{HoldsCache, figures_at, header_of}
 use Rattle.pending_flows.proofs.Templates.{length_all_bodies}
 use Rattle.pending_flows.proofs.Weights.{counts_sum}
 use Rattle.table_view.proofs.Tied.{Tied}
@@ -153,17 +154,17 @@ module _ (w b : List ℕ) (ok : well_formed w (length b) ≡ true) (i : ℕ) (x 
         placed lens (subst Limited (sym settled_cache) settled_limited)).1
         ∙ ap (λ (c : Cache). some c) settled_cache
 
-    -- the header as it is written, with the limits and the figures that were read
-    pub settled_does : {l' : PendingFlowsConfig} {f : HeaderFigures} {w' : List ℕ} → l' ≡ l → f ≡ figures_at w →
+    -- the header as it is written, with the one that was read
+    pub settled_does : {h : Header} {w' : List ℕ} → HoldsCache h w (length b) →
         w' ≡ overwritten w₁
-        (header_of l' (settled_figures f (length (accepted_bodies v x)) leaving total k m)) →
+        (header_of h.limits (settled_figures h.figures (length (accepted_bodies v x)) leaving total k m)) →
         drop l.max_total_bytes b' ≡ drop l.max_total_bytes b →
         drop (words_needed l) w₁ ≡ drop (words_needed l) w →
         Does (offered i x) cache (areas_of w b) (verdict_answer v) (areas_of w' b')
     unfolding settled overwritten
-    settled_does e g written bytes_behind words_behind =
+    settled_does holds written bytes_behind words_behind =
         let same = sym offered_settled in
-        let is : _ ≡ settled_words = written ∙ rw (e, g) in
+        let is : _ ≡ settled_words = written ∙ rw (holds.limits, holds.figures) in
         rw is (record {
           answer = ap verdict_answer (sym verdict) ∙ ap (λ (o : Outcome). o.answer) same;
           holds = settled_view ∙ ap (λ (o : Outcome). some o.cache) same;

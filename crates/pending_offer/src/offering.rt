@@ -5,20 +5,19 @@ ghost use Rattle.table.specs.Table.{table_of};
 ghost use Rattle.table.specs.WellFormed.{well_formed};
 ghost use Rattle.cache_model.specs.Cache.{done, number};
 ghost use Rattle.cache_model.specs.Offer.{offered};
-ghost use Rattle.pending_flows.specs.Header.{figures_at};
+ghost use Rattle.pending_flows.specs.Header.{HoldsCache};
 ghost use Rattle.pending_flows.specs.View.{areas_of, cache_of};
 ghost use Rattle.pending_calls.specs.Promises.{Does};
 ghost use Rattle.offer_plan.specs.Plan.{Plans, live_bodies};
 ghost use Rattle.pending_offer.specs.Promises.{body_of, offer_number, Offers, DoesOffer};
 ghost use Rattle.pending_offer.specs.declared.offering.OfferRefusal.TheVariants as OfferRefusal;
 
-use config::PendingFlowsConfig;
 use offer_plan::{OfferPlan, plan_offer};
 use offer_steps::{add_body, choose_label, count_drop, held_bodies, settle};
 use packed_removal::remove_for_body;
-use pending_flows::{HeaderFigures, figures_at};
+use pending_flows::Header;
 use planned_removal::remove_planned;
-use table::{Damaged, LABELS, limits_at};
+use table::{Damaged, limits_at, records_at, records_in};
 use table_watch::Sought;
 
 // Why a body is not accepted. Number 21 is none of them: no offer can reach it.
@@ -54,32 +53,30 @@ impl From<OfferRefusal> for u32 {
 fn accept(
     words: &mut [u64],
     bytes: &mut [u8],
-    limits: PendingFlowsConfig,
-    figures: HeaderFigures,
+    header: Header,
     plan: OfferPlan,
     id: u64,
     body: &[u8],
     clock: u64,
 )
-    requires bytes_value { (well_formed words.old (length bytes.old) ≡ true) × (limits ≡ limits_of words.old) }
-    requires figures_value { (figures ≡ figures_at words.old) × (length body.now ≤ (limits_of words.old
-        ).max_entry_size_bytes) }
+    requires header_value { HoldsCache header words.old (length bytes.old) }
+    requires body_len_bound { length body.now ≤ (limits_of words.old).max_entry_size_bytes }
     requires plans { (Plans words.old bytes.old id (length body.now) clock plan) × ((plan.full ≡ false) ×
         (id < 65536)) }
     ensures { Does (offered id (body_of body.now clock)) (cache_of (table_of words.old)
         bytes.old) (areas_of words.old bytes.old) done
         (areas_of words.new bytes.new) }
 {
-    let held = held_bodies(words, bytes, limits, figures);
-    let left = remove_for_body(words, bytes, limits, figures, plan, clock, body.len());
-    let label = choose_label(words, limits, left.records, plan.label);
-    add_body(words, bytes, limits, left, label, id, body, clock);
+    let held = held_bodies(words, bytes, header);
+    let left = remove_for_body(words, bytes, header, plan, clock, body.len());
+    let records = records_in(words, records_at(header.limits), left.records);
+    let label = choose_label(records, plan.label);
+    add_body(words, bytes, header.limits, left, label, id, body, clock);
     let drops = held - (left.entries as u64);
     let total = left.bytes + (body.len() as u64);
     settle(
         words,
-        limits,
-        figures,
+        header,
         1,
         drops,
         total,
@@ -92,30 +89,27 @@ fn accept(
 fn turn_down(
     words: &mut [u64],
     bytes: &[u8],
-    limits: PendingFlowsConfig,
-    figures: HeaderFigures,
+    header: Header,
     plan: OfferPlan,
     id: u64,
     body: &[u8],
     clock: u64,
 )
-    requires bytes_value { (well_formed words.old (length bytes.now) ≡ true) × (limits ≡ limits_of words.old) }
-    requires figures_value { (figures ≡ figures_at words.old) × (length body.now ≤ (limits_of words.old
-        ).max_entry_size_bytes) }
+    requires header_value { HoldsCache header words.old (length bytes.now) }
+    requires body_len_bound { length body.now ≤ (limits_of words.old).max_entry_size_bytes }
     requires plans { (Plans words.old bytes.now id (length body.now) clock plan) × (plan.full ≡ true) }
     ensures { Does (offered id (body_of body.now clock)) (cache_of (table_of words.old)
         bytes.now) (areas_of words.old bytes.now) (number 20)
         (areas_of words.new bytes.now) }
 {
-    let held = held_bodies(words, bytes, limits, figures);
+    let held = held_bodies(words, bytes, header);
     // no label apart: the template is not promoted
-    let none = LABELS as u64;
-    let left = remove_planned(words, bytes, limits, figures, plan, clock, none);
+    let none = None;
+    let left = remove_planned(words, bytes, header, plan, clock, none);
     let drops = held - (left.entries as u64);
     settle(
         words,
-        limits,
-        figures,
+        header,
         0,
         drops + 1,
         left.bytes,
@@ -139,15 +133,14 @@ fn offer_body(
     ensures { DoesOffer id body.now clock (cache_of (table_of words.old) bytes.old)
         (areas_of words.old bytes.old) result (areas_of words.new bytes.new) }
 {
-    let limits = limits_at(words);
-    let figures = figures_at(words);
+    let header = Header::read(words);
     let len = body.len();
-    let plan = plan_offer(words, bytes, limits, figures, id, len, clock, live);
+    let plan = plan_offer(words, bytes, header, id, len, clock, live);
     if plan.full {
-        turn_down(words, bytes, limits, figures, plan, id, body, clock);
+        turn_down(words, bytes, header, plan, id, body, clock);
         return Err(OfferRefusal::TemplateFull);
     }
-    accept(words, bytes, limits, figures, plan, id, body, clock);
+    accept(words, bytes, header, plan, id, body, clock);
     Ok(())
 }
 

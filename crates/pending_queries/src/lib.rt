@@ -10,8 +10,8 @@ ghost use Rattle.pending_flows.specs.View.{areas_of, cache_of};
 ghost use Rattle.pending_queries.specs.Queries.{Asks, accepts_with, accept_answer, figures_record, figures_answer};
 
 use config::PendingFlowsConfig;
-use pending_flows::handed_count;
-use table::{CACHED, DROPPED, Damaged, ENTRY_COUNT, HELD_COUNT, TOTAL, limits_at};
+use pending_flows::{Header, handed_count};
+use table::{Damaged, limits_at};
 use table_watch::Sought;
 
 // Whether a body of this length is within the limits, and the id's unexpired bodies are fewer than the cap.
@@ -56,18 +56,20 @@ pub struct CacheFigures {
 }
 
 // The figures of a well-formed cache.
+#[tactic(auto, using(crate::proofs::Figures::figures_read, pending_flows::proofs::Figures::handed_few, pending_flows::proofs::Questions::header_within))]
 fn figures_of(words: &[u64], bytes: &[u8]) -> CacheFigures
     requires { well_formed words.now (length bytes.now) ≡ true }
     ensures { figures_record result ≡ figures (cache_of (table_of words.now) bytes.now) }
 {
-    let limits = limits_at(words);
-    let handed = handed_count(words, bytes, limits);
+    let header = Header::read(words);
+    let figures = header.figures;
+    let handed = handed_count(words, bytes, header.limits);
     CacheFigures {
-        templates: words[HELD_COUNT],
-        bodies: words[ENTRY_COUNT] - handed,
-        bytes: words[TOTAL],
-        cached: words[CACHED],
-        dropped: words[DROPPED],
+        templates: figures.templates,
+        bodies: figures.entries - handed,
+        bytes: figures.total,
+        cached: figures.cached,
+        dropped: figures.dropped,
         handed,
     }
 }

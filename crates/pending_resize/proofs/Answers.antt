@@ -54,9 +54,6 @@ module _ (l : PendingFlowsConfig) (w b : List ℕ) {v : Bool} (tested : v ≡ we
     }
 
     module _ (accepted : 0 ≡ config_number l (length b) (length w)) where
-      pub resize_legal : (well_formed w (length b) ≡ true) × (config_number l (length b) (length w) ≡ 0)
-      resize_legal = (sym tested ∙ not-false v h, sym accepted)
-
       pub resize_done : {w' b' : List ℕ} {k : ℕ} →
           ResizesTo l (cache_of (table_of w) b) (areas_of w b) k (areas_of w' b') →
           Resizes l (areas_of w b) (Ok k) (areas_of w' b')

@@ -12,7 +12,7 @@ use Rattle.config.specs.Limits.{record_words, entry_words, max_bodies, words_nee
 use Rattle.config.proofs.Limits as Config
 use Rattle.table.specs.Layout.{limits_of, held_count, chance_count, entries_at, records_at}
 use Rattle.table.specs.Table.{Table, table_of, entries_from, records_from, index_from, records, index, sum_lens}
-use Rattle.table.specs.WellFormed.{well_formed, places_legal}
+use Rattle.table.specs.WellFormed.{places_legal}
 use Rattle.table.proofs.Words.{length_records, length_entries}
 use Rattle.table.proofs.Facts.{places_hold, LegalTable, table_holds, LegalWords, words_say}
 use Rattle.table_entries.specs.Sums.{lens_sum}
@@ -26,7 +26,8 @@ use Rattle.cache_model.proofs.Resizes.{shrunk_within}
 use Rattle.cache_model.proofs.Shrinking.{shrunk_thinned}
 use Rattle.pending_flows.specs.View.{templates_at, cache_of}
 use Rattle.pending_flows.specs.declared.header.HeaderFigures.{HeaderFigures}
-use Rattle.pending_flows.specs.Header.{figures_at}
+use Rattle.pending_flows.specs.declared.header.Header.{Header}
+use Rattle.pending_flows.specs.Header.{HoldsCache}
 use Rattle.pending_flows.proofs.Questions.{first_records}
 use Rattle.pending_calls.specs.declared.removal.Removed.{Removed}
 use Rattle.table_view.proofs.Tied.{Tied, words_tied}
@@ -40,17 +41,22 @@ use Rattle.resize_steps.proofs.Fits.{rows_bytes, under_total, fit_rows, fit_temp
 use Rattle.resize_steps.proofs.Places.{placed_rows, placed_lens, placed_templates, placed_behind}
 use Rattle.pending_resize.proofs.Moves.{records_moved, index_moved, entries_before, words_behind}
 
-module _ (l : PendingFlowsConfig) (w b : List ℕ) (p : ℕ) (f : HeaderFigures)
-    (ok : (well_formed w (length b) ≡ true) × (config_number l (length b) (length w) ≡ 0))
-    (read : (p ≡ records_at (limits_of w)) × (f ≡ figures_at w)) where
+module _ (l : PendingFlowsConfig) (w b : List ℕ) {h : Header} {p : ℕ} (holds : HoldsCache h w (length b))
+    (accepted : config_number l (length b) (length w) ≡ 0) (from : p ≡ records_at h.limits) where
+  abbrev f : HeaderFigures
+  f = h.figures
+
+  start : p ≡ records_at (limits_of w)
+  start = from ∙ ap records_at holds.limits
+
   old : LegalWords w (length b)
-  old = words_say w (length b) ok.0
+  old = words_say w (length b) holds.legal
 
   new : Config.LegalLimits l (length b) (length w)
-  new = Config.limits_say l (length b) (length w) ok.1
+  new = Config.limits_say l (length b) (length w) accepted
 
-  pub bodies_few : max_bodies l ≤ 262144
-  bodies_few = new.bodies_few
+  pub new_few : max_bodies l ≤ 262144
+  new_few = new.bodies_few
 
   abbrev most : ℕ
   most = (limits_of w).max_total_bytes
@@ -67,9 +73,9 @@ module _ (l : PendingFlowsConfig) (w b : List ℕ) (p : ℕ) (f : HeaderFigures)
   read_tied : Tied (records w) (table_of w).entries (index w)
   read_tied = rw (take-append-drop (held_count w) (records w)) at (words_tied w (length b) old)
 
-  start : Rows p (f.templates + f.chance) f.entries most w
-  start =
-      rw (read.0, read.1)
+  rows_before : Rows p (f.templates + f.chance) f.entries most w
+  rows_before =
+      rw (start, holds.figures)
       (record {
         tied = read_tied;
         placed = old.table_legal_lem.entries_placed;
@@ -81,37 +87,37 @@ module _ (l : PendingFlowsConfig) (w b : List ℕ) (p : ℕ) (f : HeaderFigures)
   pub cut_fits : ((entries_at + entry_words * f.entries ≤ p)
       × (p + record_words * (f.templates + f.chance) ≤ length w)) × (f.templates + f.chance ≤ 1024)
   cut_fits =
-      rw (read.0, read.1) (
+      rw (start, holds.figures) (
         (omega (arith, old.entries_fit), omega (arith, old.templates_fit, old.limits_legal_lem.words_enough)),
         omega (arith, old.templates_fit, old.limits_legal_lem.templates_few),
       )
 
   records_end : p + record_words * (f.templates + f.chance) ≤ words_needed (limits_of w)
-  records_end = rw (read.0, read.1) (omega (arith, old.templates_fit))
+  records_end = rw (start, holds.figures) (omega (arith, old.templates_fit))
 
   held_are : templates_at b (entries_from w entries_at f.entries) (records_from w p f.templates) ≡ cache.held
   held_are =
-      rw (read.0, read.1)
+      rw (start, holds.figures)
       (ap (templates_at b (table_of w).entries) (sym (first_records w (records_at (limits_of w)) (held_count w)
       (chance_count w))))
 
   module _ {w₁ : List ℕ} {few : Removed} (c : Cuts l p f.templates f.chance f.entries w w₁ few) where
     rows_cut : Rows p few.records few.entries most w₁
-    rows_cut = cut_rows l p f.templates f.chance f.entries most w b start lent new.some_entries c
+    rows_cut = cut_rows l p f.templates f.chance f.entries most w b rows_before lent new.some_entries c
 
     abbrev after_cut : List Template
     after_cut = templates_at b (entries_from w₁ entries_at few.entries) (records_from w₁ p few.records)
 
     templates_cut : after_cut ≡ (cut l cache.held).held
     templates_cut =
-        cut_templates l p f.templates f.chance f.entries most w b start lent new.some_entries c
+        cut_templates l p f.templates f.chance f.entries most w b rows_before lent new.some_entries c
         ∙ ap (λ (ts : List Template). (cut l ts).held) held_are
 
     pub total_fits : ((entries_at + entry_words * few.entries ≤ p) × (p + record_words * few.records ≤ length w₁))
         × ((few.records ≤ 1024) × (few.bytes ≡ lens_sum (entries_from w₁ entries_at few.entries)))
     total_fits = (
       (omega (arith, cut_fits.0, c.few_entries), omega (arith, cut_fits.0, c.few_records, c.long)),
-      (rows_cut.records_few, lens_left start _ _ c),
+      (rows_cut.records_few, lens_left rows_before _ _ c),
     )
 
     module _ {w₂ : List ℕ} {left : Removed}

@@ -29,7 +29,8 @@ use Rattle.cache_model.proofs.Drops.{resize_drops}
 use Rattle.cache_model.proofs.Calls.{Limited, resized_to_within}
 use Rattle.pending_flows.specs.View.{areas_of, cache_of, view}
 use Rattle.pending_flows.specs.declared.header.HeaderFigures.{HeaderFigures}
-use Rattle.pending_flows.specs.Header.{figures_at, header_of}
+use Rattle.pending_flows.specs.declared.header.Header.{Header}
+use Rattle.pending_flows.specs.Header.{header_at, header_of}
 use Rattle.pending_flows.proofs.Templates.{length_all_bodies}
 use Rattle.pending_flows.proofs.Weights.{counts_sum}
 use Rattle.pending_flows.proofs.Figures.{held_counted}
@@ -41,11 +42,6 @@ use Rattle.pending_resize.specs.Shrink.{table_left, Shrinks}
 use Rattle.pending_resize.specs.Promises.{ResizesTo}
 use Rattle.resize_steps.proofs.Rows.{Rows}
 use Rattle.resize_steps.proofs.Fits.{rows_total}
-
--- where the records stand
-pub old_place : (w : List ℕ) (was : PendingFlowsConfig) → was ≡ limits_of w → (p : ℕ) → p ≡ records_at was →
-    p ≡ records_at (limits_of w)
-old_place w was limits p at = at ∙ ap records_at limits
 
 module _ (l : PendingFlowsConfig) (w b : List ℕ)
     (ok : (well_formed w (length b) ≡ true) × (config_number l (length b) (length w) ≡ 0)) where
@@ -104,12 +100,13 @@ module _ (l : PendingFlowsConfig) (w b : List ℕ)
     pub left_header : header_words ≤ length w₁
     left_header = omega (arith, old.header_long, long)
 
-    module _ (was : PendingFlowsConfig) (p : ℕ) (f : HeaderFigures) (handed : ℕ) (limits : was ≡ limits_of w)
-        (at : p ≡ records_at was) (figures : f ≡ figures_at w)
-        (counted : handed ≡ count_sum (table_of w).handed) where
+    module _ (h : Header) (handed : ℕ) (read : h ≡ header_at w) (counted : handed ≡ count_sum (table_of w).handed) where
+      abbrev f : HeaderFigures
+      f = h.figures
+
       removed_count : length (shrunk l cache.held).removed + m + handed ≡ f.entries
       removed_count =
-          let all : entry_count w ≡ f.entries = ap (λ (g : HeaderFigures). g.entries) (sym figures) in
+          let all : entry_count w ≡ f.entries = ap (λ (g : Header). g.figures.entries) (sym read) in
           omega (arith, resize_drops l cache.held, left_count, held_counted w b ok.0, counted)
 
       pub handed_few : handed ≤ f.entries
@@ -167,7 +164,7 @@ module _ (l : PendingFlowsConfig) (w b : List ℕ)
             let whole : take k rs ≡ rs = take_all k rs (omega (arith, length_records w₁ (records_at l) k)) in
             let none : drop k rs ≡ [] =
             drop_of_length-le rs {i = k} (omega (arith, length_records w₁ (records_at l) k)) in
-            rw (whole, none, s.templates, more, dropped_count, figures)
+            rw (whole, none, s.templates, more, dropped_count, read)
 
         headed_long : length w₂ ≡ length w₁
         headed_long = rw is_headed (headed_length l (after dropped) w₁ (omega (arith, left_header)))

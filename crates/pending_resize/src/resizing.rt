@@ -11,8 +11,7 @@ ghost use Rattle.pending_resize.specs.declared.resizing.ResizeRefusal.TheVariant
 use super::shrinking::shrink;
 use config::{ConfigRefusal, PendingFlowsConfig};
 use pending_calls::raised;
-use pending_flows::{HeaderFigures, figures_at, handed_count, write_header};
-use table::{limits_at, records_at};
+use pending_flows::{Header, HeaderFigures, handed_count};
 
 // Why a cache is not resized.
 #[derive(Clone, Copy, Debug, PartialEq, Eq)]
@@ -42,6 +41,7 @@ impl From<ResizeRefusal> for u32 {
 }
 
 // Resizes a well-formed cache to limits that are not refused; answers how many bodies are dropped.
+#[tactic(auto, using(pending_flows::proofs::Questions::header_within, crate::proofs::Resized::handed_few, crate::proofs::Resized::left_few, crate::proofs::Resized::left_header))]
 fn resize_cache(words: &mut [u64], bytes: &mut [u8], config: PendingFlowsConfig) -> usize
     requires { (well_formed words.old (length bytes.old) ≡ true) × (config_number config (length bytes.old)
         (length words.old) ≡ 0) }
@@ -49,13 +49,12 @@ fn resize_cache(words: &mut [u64], bytes: &mut [u8], config: PendingFlowsConfig)
         (areas_of words.old bytes.old) result
         (areas_of words.new bytes.new) }
 {
-    let limits = limits_at(words);
-    let from = records_at(limits);
-    let figures = figures_at(words);
-    let handed = handed_count(words, bytes, limits);
-    let left = shrink(words, bytes, from, figures, config);
+    let header = Header::read(words);
+    let figures = header.figures;
+    let handed = handed_count(words, bytes, header.limits);
+    let left = shrink(words, bytes, header, config);
     let dropped = figures.entries - handed - (left.entries as u64);
-    let resized = HeaderFigures {
+    let remaining = HeaderFigures {
         cached: figures.cached,
         dropped: raised(figures.dropped, dropped),
         total: left.bytes,
@@ -63,7 +62,11 @@ fn resize_cache(words: &mut [u64], bytes: &mut [u8], config: PendingFlowsConfig)
         entries: left.entries as u64,
         chance: 0,
     };
-    write_header(words, config, resized);
+    let resized = Header {
+        limits: config,
+        figures: remaining,
+    };
+    resized.write(words);
     dropped as usize
 }
 

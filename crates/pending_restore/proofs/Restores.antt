@@ -1,4 +1,4 @@
--- The steps of a put-back, with the limits and figures as they were read: what each step asks, and what all do.
+-- The steps of a put-back, with the header as it was read: what each step asks, and what all do.
 -- Assumes nothing.
 use Rattle.std.proofs.Common.{Option, Some, None, Ok, Err}
 use mathlib.Core.Path.{◌≡◌, refl, sym, ap, subst, ◌∙◌}
@@ -9,7 +9,6 @@ use native.Mathlib.Omega.{arith}
 use lib.ListN.{length, set, length-set}
 use borrow.Author.Tests.{eq-eqb, ne_eqb}
 use Rattle.areas.specs.Overwrite.{overwritten}
-use Rattle.config.specs.declared.PendingFlowsConfig.{PendingFlowsConfig}
 use Rattle.config.proofs.Limits.{cap_small}
 use Rattle.config.proofs.Lists.{All, all_back}
 use Rattle.table.specs.declared.TemplateRecord.{TemplateRecord}
@@ -21,7 +20,8 @@ use Rattle.table_entries.specs.declared.StayTest.{StayTest}
 use Rattle.cache_model.specs.Cache.{done}
 use Rattle.cache_model.specs.Calls.{put_back}
 use Rattle.pending_flows.specs.declared.header.HeaderFigures.{HeaderFigures}
-use Rattle.pending_flows.specs.Header.{figures_at, header_of}
+use Rattle.pending_flows.specs.declared.header.Header.{Header}
+use Rattle.pending_flows.specs.Header.{HoldsCache, header_of}
 use Rattle.pending_flows.specs.View.{areas_of, cache_of}
 use Rattle.pending_calls.specs.declared.removal.Removed.{Removed}
 use Rattle.pending_calls.specs.Removal.{everything, Removes}
@@ -47,11 +47,11 @@ taken_back label less p f w w' r all e d = rw (← all, ← e) d
 
 -- ---- a well-formed cache
 
-module _ (w b : List ℕ) (n : ℕ) (t : TemplateRecord) (ok : well_formed w (length b) ≡ true) (some : 0 < n)
+module _ (w b : List ℕ) (n : ℕ) (t : TemplateRecord) {h : Header} (holds : HoldsCache h w (length b)) (some : 0 < n)
     (chance : HasChance n t w) where
   pub count_small : t.count ≤ 262144
   count_small =
-      let legal = words_say w (length b) ok in
+      let legal = words_say w (length b) holds.legal in
       let right : All (LegalRecord (limits_of w) (table_of w).entries) ((table_of w).held ++ (t ∷ [])) =
       subst (λ (rs : List TemplateRecord). All (LegalRecord (limits_of w) (table_of w).entries)
       ((table_of w).held ++ rs))
@@ -62,39 +62,28 @@ module _ (w b : List ℕ) (n : ℕ) (t : TemplateRecord) (ok : well_formed w (le
         cap_small (limits_of w) (length b) (length w) legal.limits_legal_lem,
       )
 
-  module _ {l : PendingFlowsConfig} {f : HeaderFigures} {p : ℕ} (limits : l ≡ limits_of w) (figures : f ≡ figures_at w)
-      (from : p ≡ records_at l) {w' : List ℕ} {r : Removed}
-      (taken : TakesBack t.label (t.count - n) p f w w' r) (long : length w' ≡ length w) where
-    -- where what was taken out says it, with the limits and figures read
-    after_taking : (T : PendingFlowsConfig → HeaderFigures → ℕ → Type 0) →
-        (TakesBack t.label (t.count - n) (records_at (limits_of w)) (figures_at w) w w' r →
-        T (limits_of w) (figures_at w) (records_at (limits_of w))) → T l f p
-    after_taking T k =
-        as_read w limits figures from (λ l f p. TakesBack t.label (t.count - n) p f w w' r → T l f p) k taken
-
-    pub put_back_written : {w'' : List ℕ} →
-        w'' ≡ overwritten w' (header_of l (record {
-          cached = f.cached;
-          dropped = f.dropped;
+  module _ {p : ℕ} (from : p ≡ records_at h.limits) {w' : List ℕ} {r : Removed}
+      (taken : TakesBack t.label (t.count - n) p h.figures w w' r) (long : length w' ≡ length w) where
+    -- the header that is written
+    abbrev Written : Header → List ℕ → Type 0
+    Written h w'' =
+        w'' ≡ overwritten w' (header_of h.limits (record {
+          cached = h.figures.cached;
+          dropped = h.figures.dropped;
           total = r.bytes;
           templates = r.records;
           entries = r.entries;
           chance = 0;
-        })) →
+        }))
+
+    pub put_back_written : {w'' : List ℕ} → Written h w'' →
         Does (put_back t.key n) (cache_of (table_of w) b) (areas_of w b) done (areas_of w'' b)
     unfolding overwritten
     put_back_written {w''} written =
-        after_taking
-        (λ l f p. w'' ≡ overwritten w' (header_of l (record {
-          cached = f.cached;
-          dropped = f.dropped;
-          total = r.bytes;
-          templates = r.records;
-          entries = r.entries;
-          chance = 0;
-        })) →
+        as_read w (length b) holds from
+        (λ h p. TakesBack t.label (t.count - n) p h.figures w w' r → Written h w'' →
         Does (put_back t.key n) (cache_of (table_of w) b) (areas_of w b) done (areas_of w'' b))
-        (λ k z. rw z (put_back_does w b n t ok some chance k long)) written
+        (λ k z. rw z (put_back_does w b n t holds.legal some chance k long)) taken written
 
 -- ---- the call, behind the test of 28
 

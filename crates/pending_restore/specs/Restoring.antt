@@ -1,7 +1,7 @@
 -- The steps of a put-back on the table: whether there is the chance, and what is taken out of the rows. They stand here
 -- because the contracts of the steps cite them.
 use Rattle.std.specs.Prelude.{Option, Some, None}
-use Rattle.std.specs.Prelude.{◌≡◌, false, List, [], ◌∷◌, ℕ, ◌+◌, ◌≤◌, set}
+use Rattle.std.specs.Prelude.{◌≡◌, Bool, false, eqb, leb, ◌&&◌, List, [], ◌∷◌, ℕ, ◌+◌, ◌≤◌, set}
 use Rattle.table.specs.declared.TemplateRecord.{TemplateRecord}
 use Rattle.table.specs.Table.{table_of}
 use Rattle.cache_model.specs.Calls.{may_put_back}
@@ -10,6 +10,10 @@ use Rattle.pending_flows.specs.View.{cache_of}
 use Rattle.pending_calls.specs.declared.removal.Removed.{Removed}
 use Rattle.pending_calls.specs.Removal.{everything, Removes}
 use Rattle.pending_drain.specs.Handing.{zeros}
+
+-- a template of this id, with at least n bodies
+abbrev pub may_give : ℕ → ℕ → TemplateRecord → Bool
+may_give id n t = eqb id t.key && leb n t.count
 
 -- the template is the one that is handed out, with at least n bodies
 pub record HasChance (n : ℕ) (t : TemplateRecord) (w : List ℕ) : Type 0 where

@@ -1,22 +1,24 @@
 // Putting back what a drain handed out.
 #![tactic(auto)]
 
-ghost use Rattle.std.specs.Prelude.{◌≡◌, true, ◌+◌, ◌*◌, ◌≤◌, ◌<◌, length};
+ghost use Rattle.std.specs.Prelude.{◌≡◌, ◌+◌, ◌*◌, ◌≤◌, ◌<◌, length};
+ghost use Rattle.std.specs.List.{find};
 ghost use Rattle.config.specs.Limits.{record_words, entry_words};
 ghost use Rattle.table.specs.Layout.{entries_at};
+ghost use Rattle.table.specs.Parts.{templates_of};
 ghost use Rattle.table.specs.Table.{table_of};
-ghost use Rattle.table.specs.WellFormed.{well_formed};
 ghost use Rattle.cache_model.specs.Cache.{done};
 ghost use Rattle.cache_model.specs.Calls.{put_back};
+ghost use Rattle.pending_flows.specs.Header.{HoldsCache};
 ghost use Rattle.pending_flows.specs.View.{areas_of, cache_of};
 ghost use Rattle.pending_calls.specs.Promises.{Does};
-ghost use Rattle.pending_restore.specs.Restoring.{HasChance, FindsChance, TakesBack};
+ghost use Rattle.pending_restore.specs.Restoring.{may_give, HasChance, FindsChance, TakesBack};
 ghost use Rattle.pending_restore.specs.Promises.{put_back_number, PutsBack};
 
 use config::RECORD_WORDS;
 use pending_calls::{Removed, remove, stay_all};
-use pending_flows::{HeaderFigures, figures_at, write_header};
-use table::{CHANCE_COUNT, HELD_COUNT, LABELS, TemplateRecord, limits_at, record_at, records_at};
+use pending_flows::{Header, HeaderFigures};
+use table::{LABELS, TemplateRecord, records_at, records_in, template_of};
 use table_records::set_sum;
 
 // Why nothing is put back.
@@ -38,24 +40,35 @@ impl From<PutBackRefusal> for u32 {
     }
 }
 
+// The first of these templates that has this id and at least n bodies.
+fn sought(handed: &[[u64; RECORD_WORDS]], id: u64, n: u64) -> Option<TemplateRecord>
+    ensures { result ≡ find (may_give id n) (templates_of handed.now) }
+{
+    handed
+        .iter()
+        .map(|words| template_of(words))
+        .find(|template| id == template.key && n <= template.count)
+}
+
 // The handed-out template of a well-formed cache, if it has this id and at least n bodies; n is not 0.
-fn find_chance(words: &[u64], bytes: &[u8], id: u64, n: u64) -> Option<TemplateRecord>
-    requires { (well_formed words.now (length bytes.now) ≡ true) × (0 < n) }
+fn find_chance(
+    words: &[u64],
+    bytes: &[u8],
+    header: Header,
+    id: u64,
+    n: u64,
+) -> Option<TemplateRecord>
+    requires { HoldsCache header words.now (length bytes.now) × (0 < n) }
     ensures { FindsChance id n words.now bytes.now result }
 {
-    if words[CHANCE_COUNT] == 0 {
-        return None;
-    }
-    let held = words[HELD_COUNT] as usize;
-    let template = record_at(words, records_at(limits_at(words)) + RECORD_WORDS * held);
-    if id == template.key && n <= template.count {
-        Some(template)
-    } else {
-        None
-    }
+    let Header { limits, figures } = header;
+    let behind = records_at(limits) + RECORD_WORDS * (figures.templates as usize);
+    let handed = records_in(words, behind, figures.chance as usize);
+    sought(handed, id, n)
 }
 
 // Removes so many of a label's bodies, the oldest, and no others.
+// The words and a place, no parts: `as_chunks_mut` says nothing of what the words end as.
 fn take_back(
     words: &mut [u64],
     from: usize,
@@ -78,31 +91,33 @@ fn take_back(
         figures.entries as usize,
         stay_all(),
         &mut skip,
-        LABELS as u64,
+        None,
     )
 }
 
 // Puts the last n bodies of the handed-out template back, as the newest template.
-fn put_back(words: &mut [u64], bytes: &[u8], template: TemplateRecord, n: u64)
-    requires bytes_value { well_formed words.old (length bytes.now) ≡ true }
+fn put_back(words: &mut [u64], bytes: &[u8], header: Header, template: TemplateRecord, n: u64)
+    requires header_value { HoldsCache header words.old (length bytes.now) }
     requires n_nonzero { (0 < n) × HasChance n template words.old }
     ensures { Does (put_back template.key n) (cache_of (table_of words.old) bytes.now)
         (areas_of words.old bytes.now) done (areas_of words.new bytes.now) }
 {
-    let limits = limits_at(words);
-    let figures = figures_at(words);
+    let Header { limits, figures } = header;
     let from = records_at(limits);
     let less = template.count - n;
     let removed = take_back(words, from, figures, template.label, less as u32);
     let after = HeaderFigures {
-        cached: figures.cached,
-        dropped: figures.dropped,
         total: removed.bytes,
         templates: removed.records as u64,
         entries: removed.entries as u64,
         chance: 0,
+        ..figures
     };
-    write_header(words, limits, after);
+    let restored = Header {
+        limits,
+        figures: after,
+    };
+    restored.write(words);
 }
 
 // Puts back the last n bodies of the last drain, if it drained this id, handed out as many, and neither an offer nor
@@ -122,9 +137,10 @@ pub fn restore_replay_suffix(
     if n == 0 {
         return Ok(());
     }
-    let Some(template) = find_chance(words, bytes, id as u64, n as u64) else {
+    let header = Header::read(words);
+    let Some(template) = find_chance(words, bytes, header, id as u64, n as u64) else {
         return Err(PutBackRefusal::NoChance);
     };
-    put_back(words, bytes, template, n as u64);
+    put_back(words, bytes, header, template, n as u64);
     Ok(())
 }

@@ -11,7 +11,7 @@ use pendlist_turns::bytes_ready;
 // What a turn leaves.
 #[derive(Clone, Copy)]
 pub struct Turn {
-    // the bytes at the buffer's front: a line that may go on
+    // the bytes at the front: a line that may go on
     pub kept: usize,
     // whether a cache is open
     pub opened: bool,
@@ -21,25 +21,24 @@ pub struct Turn {
     pub filled: usize,
 }
 
-// Carries out what is ready of the buffer's first n bytes, of which `kept` were there before, puts the rows into `out`
-// from its front, and brings the bytes that are left to the buffer's front.
+// Carries out what is ready of the bytes that are there, of which `kept` were there before, puts the rows into `out`
+// from its front, and brings the bytes that are left to their front.
 pub fn take_turn(
     words: &mut [u64],
     bytes: &mut [u8],
-    buffer: &mut [u8],
+    there: &mut [u8],
     kept: usize,
-    n: usize,
     opened: bool,
     out: &mut [u8],
 ) -> Turn
-    requires { (n ≤ length buffer.old) × (length buffer.old ≡ 4096) × (length out.old ≡ 438272) }
-    ensures { TakesTurn buffer.old kept n opened (areas_of words.old bytes.old) result
-        (areas_of words.new bytes.new) buffer.new out.new }
+    requires { (length there.old ≤ 4096) × (length out.old ≡ 438272) }
+    ensures { TakesTurn there.old kept opened (areas_of words.old bytes.old) result
+        (areas_of words.new bytes.new) there.new out.new }
 {
-    let ready = bytes_ready(buffer, kept, n);
-    let done = run_text(words, bytes, &buffer[..ready], opened, out);
-    let left = n - ready;
-    buffer.copy_within(ready..n, 0);
+    let ready = bytes_ready(there, kept);
+    let done = run_text(words, bytes, &there[..ready], opened, out);
+    let left = there.len() - ready;
+    there.copy_within(ready.., 0);
     Turn {
         kept: left,
         opened: done.opened,

@@ -2,7 +2,6 @@
 use Rattle.table.specs.declared.Damaged.{Damaged}
 use Rattle.pending_offer.specs.declared.offering.OfferRefusal.{OfferRefusal}
 use Rattle.std.proofs.Common.{Result, Ok, Err}
-use Rattle.std.specs.Prelude.{⊤}
 use mathlib.Core.Path.{◌≡◌, refl, sym, ap, ◌∙◌}
 use mathlib.Core.Bool.{Bool}
 use mathlib.Core.List.{List}
@@ -11,7 +10,7 @@ use Prim.Native.Nat.{ℕ}
 use native.Mathlib.Omega.{arith}
 use Rattle.config.specs.declared.PendingFlowsConfig.{PendingFlowsConfig}
 use Rattle.config.specs.declared.ConfigRefusal.{ConfigRefusal}
-use Rattle.std.specs.Prelude.{Option as Parsed, Some, None}
+use Rattle.std.specs.Prelude.{⊤, Option as Parsed, Some, None}
 use Rattle.pendlist_commands.specs.declared.Command.{Command}
 use Rattle.pendlist_commands.specs.declared.Command.TheVariants as Says
 use Rattle.pendlist_commands.specs.declared.OfferLine.{OfferLine}

@@ -1,7 +1,6 @@
 -- What a line of a list comes to (document 01, "Cases").
-use Rattle.std.specs.Prelude.{◌≡◌, Bool, List, ℕ, length}
+use Rattle.std.specs.Prelude.{◌≡◌, Bool, List, ℕ, length, Option as Parsed, Some, None}
 use Rattle.std.proofs.Math.Option.{Option, none, some}
-use Rattle.std.specs.Prelude.{Option as Parsed, Some, None}
 use Rattle.pendlist_commands.specs.declared.Command.{Command}
 use Rattle.pendlist_commands.specs.declared.Command.TheVariants as Says
 use Rattle.pendlist_lines.specs.Grammar.{line_of, in_order}

@@ -23,7 +23,7 @@ pub struct DrainLine {
     pub clock: u64,
 }
 
-// What a line says that is not malformed.
+// What a line that is not malformed asks for: a cache is opened, a body offered, or a template drained.
 #[derive(Clone, Copy)]
 pub enum Command {
     // `c` with five limits

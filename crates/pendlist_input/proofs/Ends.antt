@@ -1,16 +1,19 @@
 -- The first line of a text and its last newline, byte by byte; the first line among the lines. Assumes nothing.
-use mathlib.Core.Path.{◌≡◌, refl, sym, ap}
+use mathlib.Core.Path.{◌≡◌, refl, sym, ap, ◌∙◌}
 use mathlib.Core.Bool.{Bool, true, false, cond}
-use mathlib.Core.List.{List, [], ◌∷◌}
-use Prim.Native.Nat.{ℕ, zero, suc, ◌+◌, ◌-◌, ◌≤◌, ◌<◌}
+use mathlib.Core.List.{List, [], ◌∷◌, ◌++◌}
+use Prim.Native.Nat.{ℕ, zero, suc, ◌+◌, ◌≤◌, ◌<◌, min}
 use native.Mathlib.Numerals.{add-one}
 use native.Mathlib.Omega.{arith}
-use lib.ListN.{length, get_or, take, drop, length-take, length-drop}
-use lib.Seq.{length-take-le}
+use lib.ListN.{length, get_or, take, drop, length-append, drop_of_length-le}
+use lib.Seq.{length-take-le, take_at, drop_at, take-nil, take_all}
 use lib.Dec.{eqb, ltb}
-use borrow.Author.Tests.{eq-eqb, ne_eqb, ltb-false}
+use borrow.Author.Tests.{eq-eqb, ne_eqb, ltb-false, ltb-true}
 use Rattle.std.specs.Prelude.{unwrap_or, position}
-use Rattle.std.specs.List.{position_or_len}
+use Rattle.std.specs.List.{position_or_len, IsFirstMatchOrLen}
+use Rattle.std.proofs.lemmas.List.Sums.{position_or_len_is}
+use Rattle.std.proofs.lemmas.List.{get_or_past}
+use Rattle.std.proofs.lemmas.Bool.{false≢true}
 use Rattle.std.proofs.lemmas.List.Recursion.{is_position_or_len}
 use Rattle.pendlist_input.specs.Input.{lines_of, first_line, whole_lines}
 use Rattle.pendlist_words.specs.Words.{longer}
@@ -109,19 +112,70 @@ whole_within (b ∷ s) = by_test (eqb (whole_lines s) 0) (eqb b 10) (whole_withi
     by_test true false h = omega arith
     by_test false q h = omega arith
 
--- The first line of a part of a text lies within it, and so do the whole lines of its front.
+-- the first line lies within its text
 pub line_counted : (s : List ℕ) {end : ℕ} → end ≡ length (first_line s) → end ≡ length (take end s)
 line_counted s {end} e = sym (length-take-le end s (rw e (first_within s)))
 
-pub line_within : (text : List ℕ) (at : ℕ) {end : ℕ} → at ≤ length text →
-    end ≡ length (first_line (take (length text - at) (drop at text))) → at + end ≤ length text
-line_within text at {end} h e =
-    omega (
-      arith,
-      first_within (take (length text - at) (drop at text)),
-      length-drop at text,
-      length-take (length text - at) (drop at text),
-    )
+-- The first part of a text, up to its first newline and with it, and the rest: the part's first line is the text's.
+pub record NextLine (text part rest : List ℕ) : Type 0 where
+  pub lines : lines_of text ≡ first_line part ∷ lines_of rest
+  pub shorter : length rest < length text
 
-pub whole_among : (n : ℕ) (s : List ℕ) {r : ℕ} → r ≡ whole_lines (take n s) → r ≤ n
-whole_among n s e = omega (arith, whole_within (take n s), length-take n s)
+first_of_part : (s : List ℕ) (n : ℕ) → length (first_line s) < n → first_line (take n s) ≡ first_line s
+unfolding first_line
+first_of_part [] n h = rw take-nil
+first_of_part (b ∷ s) zero h = absurd (omega arith)
+first_of_part (b ∷ s) (suc n) h = by_test (eqb b 10) refl (first_of_part s n)
+  where
+    by_test : (q : Bool) → eqb b 10 ≡ q → (length (first_line s) < n → first_line (take n s) ≡ first_line s) →
+        cond q [] (b ∷ first_line (take n s)) ≡ cond q [] (b ∷ first_line s)
+    by_test true e more = refl
+    by_test false e more = ap (λ (l : List ℕ). b ∷ l) (more (omega (arith, (rw e at h))))
+
+at_most_length : (text : List ℕ) (i : ℕ) → IsFirstMatchOrLen (λ b. eqb b 10) text i → i ≤ length text
+at_most_length text i first = by_test (ltb (length text) i) refl
+  where
+    by_test : (q : Bool) → ltb (length text) i ≡ q → i ≤ length text
+    by_test true e =
+        let none : eqb (get_or text (length text) 10) 10 ≡ false =
+        first.0 (length text) 10 (omega arith) (ltb-true (length text) i e) in
+        absurd (false≢true (sym none ∙ rw (get_or_past text (length text) 10 (omega arith))))
+    by_test false e = ltb-false (length text) i e
+
+-- as the library parts it at the newlines
+pub part_is_line : (text part rest : List ℕ) (i : ℕ) → text ≡ part ++ rest → length part ≡ min (i + 1) (length text) →
+    IsFirstMatchOrLen (λ b. eqb b 10) text i → 0 < length text → NextLine text part rest
+part_is_line text part rest i joined long first some = by_end (ltb (length text) (i + 1)) refl
+  where
+    first_is : length (first_line text) ≡ i
+    first_is =
+        line_is_before text
+        ∙ position_or_len_is (λ b. eqb b 10) text i 0 (at_most_length text i first) (λ k l. first.0 k 0 (omega arith) l) (λ l. first.1 l 0)
+
+    front : take (length part) text ≡ part
+    front = rw joined (take_at part rest (length part) refl)
+
+    behind : drop (length part) text ≡ rest
+    behind = rw joined (drop_at part rest (length part) refl)
+
+    lengths : length text ≡ length part + length rest
+    lengths = rw joined (length-append part rest)
+
+    goes_on : first_line part ≡ first_line text → drop (length (first_line text) + 1) text ≡ rest →
+        NextLine text part rest
+    goes_on e f = record {
+      lines = first_of_lines text some ∙ rw (f, e);
+      shorter = omega (arith, lengths, long, some);
+    }
+
+    by_end : (q : Bool) → ltb (length text) (i + 1) ≡ q → NextLine text part rest
+    by_end true e =
+        let over : length text < i + 1 = ltb-true (length text) (i + 1) e in
+        let all : length part ≡ length text = omega (arith, long) in
+        let none : drop (length part) text ≡ [] = drop_of_length-le text (omega arith) in
+        goes_on (ap first_line (sym front ∙ take_all (length part) text (omega arith)))
+        (drop_of_length-le text (omega (arith, first_is)) ∙ sym none ∙ behind)
+    by_end false e =
+        let within : i + 1 ≤ length text = ltb-false (length text) (i + 1) e in
+        let all : length part ≡ length (first_line text) + 1 = omega (arith, long, first_is) in
+        goes_on (ap first_line (sym front) ∙ first_of_part text (length part) (omega arith)) (rw (← all) behind)

@@ -2,7 +2,7 @@
 // "Cases").
 #![tactic(auto)]
 
-ghost use Rattle.std.specs.Prelude.{◌≡◌, length};
+ghost use Rattle.std.specs.Prelude.{◌≡◌, ◌≤◌, length};
 ghost use Rattle.pendlist_input.specs.Input.{first_line, whole_lines};
 ghost use Rattle.pendlist_input.specs.Body.{ramp};
 
@@ -17,7 +17,8 @@ pub fn line_end(text: &[u8]) -> usize
 
 // How many bytes of a text are whole lines, each with its newline: what follows them is a line that may go on.
 pub fn whole_lines(text: &[u8]) -> usize
-    ensures { result ≡ whole_lines text.now }
+    ensures last { result ≡ whole_lines text.now }
+    ensures within { result ≤ length text.now }
 {
     match text.iter().rposition(|byte| *byte == b'\n') {
         Some(last) => last + 1,

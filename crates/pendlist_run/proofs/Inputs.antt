@@ -131,11 +131,14 @@ module _ {a₀ a : Areas} {known₀ held₀ known held : Option (List ℕ)} {kep
     written = inv.written;
   }
 
-  module _ {n : ℕ} {buffer₁ buffer₂ out' : List ℕ} {known' : Option (List ℕ)}
+  module _ {n : ℕ} {buffer₁ there' out' : List ℕ} {known' : Option (List ℕ)}
       (read : ReadsBehind kept buffer known n buffer₁ known') {r : Turn} {a' : Areas}
-      (turn : TakesTurn buffer₁ kept n opened a r a' buffer₂ out') where
+      (turn : TakesTurn (take n buffer₁) kept opened a r a' there' out') (long : n ≤ length buffer₁) where
     brought : List ℕ
     brought = drop kept (take n buffer₁)
+
+    counted : length (take n buffer₁) ≡ n
+    counted = length-take-le n buffer₁ long
 
     there : take n buffer₁ ≡ (turns_in a₀ false inv.reads).kept ++ brought
     unfolding brought
@@ -149,14 +152,13 @@ module _ {a₀ a : Areas} {known₀ held₀ known held : Option (List ℕ)} {kep
         next_turn (length a₀.bytes) (length a₀.words) last more (turns_in a₀ false inv.reads)
 
     next_is : next (eqb n kept) brought
-        ≡ with_turn (turns_in a₀ false inv.reads) (turn_in buffer₁ kept n opened a)
+        ≡ with_turn (turns_in a₀ false inv.reads) (turn_in (take n buffer₁) kept opened a)
     unfolding next next_turn
-    next_is = rw (inv.good, ← there, inv.opens, inv.holds, inv.bytes_long, inv.words_long)
+    next_is = rw (inv.good, counted, ← there, inv.opens, inv.holds, inv.bytes_long, inv.words_long)
 
-    pub rows_handed : length out' ≡ 438272 → HandsRows out' r.filled
+    pub rows_handed : HandsRows (take r.filled out')
     unfolding next
-    rows_handed long = record {
-      within = omega (arith, turn.short);
+    rows_handed = record {
       first = a₀;
       reads = inv.reads;
       read = brought;
@@ -170,12 +172,12 @@ module _ {a₀ a : Areas} {known₀ held₀ known held : Option (List ℕ)} {kep
 
     -- the reads with this one; one that brought nothing is none of them
     by_end : (q : Bool) → eqb n kept ≡ q →
-        TurnsEnd a₀ known₀ known' q (turns_in a₀ false inv.reads).rows (turn_in buffer₁ kept n opened a)
+        TurnsEnd a₀ known₀ known' q (turns_in a₀ false inv.reads).rows (turn_in (take n buffer₁) kept opened a)
     unfolding input_turns brought next
     by_end true e =
         let few : length (take n buffer₁) ≤ kept = omega (arith, length-take n buffer₁, eqb-true n kept e) in
         let nothing : brought ≡ [] = drop_of_length-le (take n buffer₁) few in
-        let same : next true [] ≡ with_turn (turns_in a₀ false inv.reads) (turn_in buffer₁ kept n opened a) =
+        let same : next true [] ≡ with_turn (turns_in a₀ false inv.reads) (turn_in (take n buffer₁) kept opened a) =
         ap (next true) (sym nothing) ∙ ap (λ (q : Bool). next q brought) (sym e) ∙ next_is in
         record {
           reads = inv.reads;
@@ -186,7 +188,7 @@ module _ {a₀ a : Areas} {known₀ held₀ known held : Option (List ℕ)} {kep
         }
     by_end false e =
         let all : turns_in a₀ false (inv.reads ++ (brought ∷ []))
-        ≡ with_turn (turns_in a₀ false inv.reads) (turn_in buffer₁ kept n opened a) =
+        ≡ with_turn (turns_in a₀ false inv.reads) (turn_in (take n buffer₁) kept opened a) =
         turns_more (length a₀.bytes) (length a₀.words) inv.reads brought (begun (view a₀))
         ∙ ap (λ (q : Bool). next q brought) (sym e)
         ∙ next_is in
@@ -198,7 +200,7 @@ module _ {a₀ a : Areas} {known₀ held₀ known held : Option (List ℕ)} {kep
           writes = ap (λ (s : Standing). s.rows) all;
         }
 
-    turned : TurnsEnd a₀ known₀ known' (eqb n kept) (turns_in a₀ false inv.reads).rows (turn_in buffer₁ kept n opened a)
+    turned : TurnsEnd a₀ known₀ known' (eqb n kept) (turns_in a₀ false inv.reads).rows (turn_in (take n buffer₁) kept opened a)
     turned = by_end (eqb n kept) refl
 
     holds_so : view a' ≡ (turns_in a₀ (eqb n kept) turned.reads).after.holds
@@ -220,7 +222,7 @@ module _ {a₀ a : Areas} {known₀ held₀ known held : Option (List ℕ)} {kep
     -- all rows of the turn were written
     module _ (held' : Option (List ℕ)) (wrote : Appends held held' (take r.filled out')) where
       rows_more : {last : Bool} (t : TurnsEnd a₀ known₀ known' last (turns_in a₀ false inv.reads).rows
-          (turn_in buffer₁ kept n opened a)) →
+          (turn_in (take n buffer₁) kept opened a)) →
           Appends held₀ held' (turns_in a₀ last t.reads).rows
       rows_more t = rw (t.writes, ← turn.rows)
           (adds_more held₀ held held' (turns_in a₀ false inv.reads).rows (take r.filled out') inv.written wrote)
@@ -246,14 +248,18 @@ module _ {a₀ a : Areas} {known₀ held₀ known held : Option (List ℕ)} {kep
       }
 
       pub input_goes_on : r.bad ≡ false → (n ≡ kept → ⊥) → length a'.words ≡ length a.words →
-          length a'.bytes ≡ length a.bytes → InputAhead a₀ known₀ held₀ r.kept buffer₂ r.opened a' known' held'
-      input_goes_on good more w b =
+          length a'.bytes ≡ length a.bytes → length there' ≡ n →
+          InputAhead a₀ known₀ held₀ r.kept (put_mid 0 n buffer₁ there') r.opened a' known' held'
+      input_goes_on good more w b same =
+          let within : r.kept ≤ length there' = omega (arith, turn.among, counted) in
           let e : eqb n kept ≡ false = ne_eqb n kept more in
-          let t : TurnsEnd a₀ known₀ known' false (turns_in a₀ false inv.reads).rows (turn_in buffer₁ kept n opened a) =
+          let t : TurnsEnd a₀ known₀ known' false (turns_in a₀ false inv.reads).rows (turn_in (take n buffer₁) kept opened a) =
           by_end false e in
           record {
             reads = t.reads;
-            keeps = t.keeps ∙ sym turn.left;
+            keeps =
+                t.keeps ∙ sym turn.left
+                ∙ sym (take-append-le r.kept there' (post_of 0 n buffer₁) within);
             opens = ap (λ (k : ListState). k.opened) t.comes ∙ sym turn.open_after;
             good = ap (λ (k : ListState). k.bad) t.comes ∙ sym turn.bad_after ∙ good;
             holds = ap (λ (k : ListState). k.holds) t.comes ∙ sym turn.holds;

@@ -22,14 +22,13 @@ turns_in a last reads = input_turns (length a.bytes) (length a.words) last reads
 
 -- What is handed to a write are the rows of a turn: those that it adds to the rows of the turns before it. There are
 -- bytes that the reads brought so far, and those of one read more.
-pub record HandsRows (out : List ℕ) (filled : ℕ) : Type 0 where
-  pub within : filled ≤ length out
+pub record HandsRows (rows : List ℕ) : Type 0 where
   pub first : Areas
   pub reads : List (List ℕ)
   pub read : List ℕ
   pub last : Bool
   pub follows : (next_turn (length first.bytes) (length first.words) last read (turns_in first false reads)).rows
-      ≡ (turns_in first false reads).rows ++ take filled out
+      ≡ (turns_in first false reads).rows ++ rows
 
 -- Whether a program ends so, by whether the input's end was read and whether the list ended with `bad`. A write can
 -- fail anywhere.

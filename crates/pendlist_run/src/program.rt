@@ -1,5 +1,5 @@
 // The program: reads, turns and writes.
-ghost use Rattle.std.specs.Prelude.{◌≡◌, ◌≤◌, length, take, OnOk};
+ghost use Rattle.std.specs.Prelude.{◌≡◌, ◌≤◌, length, OnOk};
 ghost use Rattle.std.specs.Io.KnownBytes.{Appends};
 ghost use Rattle.pending_flows.specs.View.{areas_of};
 ghost use Rattle.pendlist_run.specs.Program.{ReadsBehind, HandsRows, RunsInput, RunsProgram, header};
@@ -36,11 +36,11 @@ const BUFFER: usize = 4096;
 const ROWS: usize = 107 * BUFFER;
 
 // Writes the rows of a turn.
-fn write_rows<W: Write>(writer: &mut W, out: &[u8], filled: usize) -> io::Result<()>
-    requires { HandsRows out.now filled }
-    ensures { OnOk result (Appends (W.contents writer.old) (W.contents writer.new) (take filled out.now)) }
+fn write_rows<W: Write>(writer: &mut W, rows: &[u8]) -> io::Result<()>
+    requires { HandsRows rows.now }
+    ensures { OnOk result (Appends (W.contents writer.old) (W.contents writer.new) rows.now) }
 {
-    writer.write_all(&out[..filled])
+    writer.write_all(rows)
 }
 
 // Writes the table's header.
@@ -52,6 +52,7 @@ fn write_header<W: Write>(writer: &mut W) -> io::Result<()>
 
 // Reads more of the input behind the first bytes of the buffer, and answers how many bytes then stand in it: no more
 // than before at the end of the input. A read that fails counts as the end.
+// The whole buffer and a place, no part: what is promised is of the bytes that are kept too.
 fn read_more<R: Read>(reader: &mut R, buffer: &mut [u8], kept: usize) -> usize
     requires { kept ≤ length buffer.old }
     ensures { ReadsBehind kept buffer.old (R.remaining reader.old) result buffer.new (R.remaining reader.new) }
@@ -80,8 +81,8 @@ fn run_input<R: Read, W: Write>(
     let mut opened = false;
     for _ in 0..MOST_READS {
         let n = read_more(reader, buffer, kept);
-        let turn = take_turn(words, bytes, buffer, kept, n, opened, out);
-        if write_rows(writer, out, turn.filled).is_err() {
+        let turn = take_turn(words, bytes, &mut buffer[..n], kept, opened, out);
+        if write_rows(writer, &out[..turn.filled]).is_err() {
             return Ended::Write;
         }
         if turn.bad {
@@ -96,9 +97,9 @@ fn run_input<R: Read, W: Write>(
     Ended::Reads
 }
 
-// An array whose length a proof knows: with a plain `[0; N]` in the generic `run`, what its callee asks of the lengths
-// stayed open.
-fn filled<T: Copy, const N: usize>(value: T) -> [T; N]
+// An array of N equal elements, whose length a proof knows: with a plain `[0; N]` in the generic `run`, what its callee
+// asks of the lengths stayed open.
+fn array_of<T: Copy, const N: usize>(value: T) -> [T; N]
     ensures { N ≡ length result }
 {
     [value; N]
@@ -109,10 +110,10 @@ pub fn run<R: Read, W: Write>(reader: &mut R, writer: &mut W) -> Ended
     ensures { RunsProgram (R.remaining reader.old) (W.contents writer.old) result
         (R.remaining reader.new) (W.contents writer.new) }
 {
-    let mut words = filled::<u64, WORDS>(0);
-    let mut bytes = filled::<u8, BYTES>(0);
-    let mut buffer = filled::<u8, BUFFER>(0);
-    let mut out = filled::<u8, ROWS>(0);
+    let mut words = array_of::<u64, WORDS>(0);
+    let mut bytes = array_of::<u8, BYTES>(0);
+    let mut buffer = array_of::<u8, BUFFER>(0);
+    let mut out = array_of::<u8, ROWS>(0);
     if write_header(writer).is_err() {
         return Ended::Write;
     }

@@ -1,15 +1,14 @@
 -- A list: its lines one after the other, up to the first `bad` (document 01, "Cases").
-use Rattle.std.specs.Prelude.{◌≡◌, Bool, true, false, cond, List, [], ◌∷◌, ◌++◌, ℕ, ◌+◌, ◌*◌, ◌≤◌, length, take, drop}
+use Rattle.std.specs.Prelude.{◌≡◌, Bool, true, false, cond, List, [], ◌∷◌, ◌++◌, ℕ, ◌*◌, ◌≤◌, length, take}
 use Rattle.std.proofs.Math.Option.{Option}
 use Rattle.pendlist_lines.specs.Grammar.{line_of, in_order}
-use Rattle.pendlist_input.specs.Input.{lines_of, first_line}
+use Rattle.pendlist_input.specs.Input.{lines_of}
 use Rattle.cache_model.specs.Cache.{Cache}
 use Rattle.pending_flows.specs.View.{Areas, view}
 use Rattle.pendlist_rows.specs.declared.Outcome.{Outcome}
 use Rattle.pendlist_rows.specs.declared.Outcome.TheVariants.{Opened, Told, Bad}
 use Rattle.pendlist_rows.specs.Text.{outcome_text}
-use Rattle.pendlist_calls.specs.Steps.{Step, step_of, RunsLine}
-use Rattle.pendlist_texts.specs.declared.LineDone.{LineDone}
+use Rattle.pendlist_calls.specs.Steps.{Step, step_of}
 use Rattle.pendlist_texts.specs.declared.TextDone.{TextDone}
 
 abbrev pub is_bad : Outcome → Bool
@@ -42,11 +41,6 @@ module _ (bytes words : ℕ) where
   rows_of (line ∷ lines) opened v =
       let s = line_step line opened v in
       outcome_text s.outcome ++ cond (is_bad s.outcome) [] (rows_of lines true s.holds)
-
--- Carrying out the line of a text that begins at a place: the next one begins behind its newline.
-pub record RunsAt (opened : Bool) (text : List ℕ) (at : ℕ) (a : Areas) (r : LineDone) (a' : Areas) : Type 0 where
-  pub next : r.next ≡ at + length (first_line (drop at text)) + 1
-  pub runs : RunsLine opened (first_line (drop at text)) a r.outcome a'
 
 -- the same of the lines of a text, in these areas
 abbrev pub after_text : Bool → List ℕ → Areas → ListState

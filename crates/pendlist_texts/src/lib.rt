@@ -3,18 +3,11 @@
 
 ghost use Rattle.std.specs.Prelude.{◌≡◌, ◌*◌, ◌≤◌, length};
 ghost use Rattle.pending_flows.specs.View.{areas_of};
-ghost use Rattle.pendlist_texts.specs.Lists.{is_bad, RunsAt, RunsText};
+ghost use Rattle.pendlist_texts.specs.Lists.{is_bad, RunsText};
 
 use pendlist_calls::run_line;
 use pendlist_input::line_end;
 use pendlist_rows::{Outcome, put_outcome};
-
-// What the line at a place of a text comes to, and where the next one begins.
-#[derive(Drop)]
-struct LineDone {
-    outcome: Outcome,
-    next: usize,
-}
 
 // How far the lines of a text have come.
 #[derive(Clone, Copy)]
@@ -33,21 +26,6 @@ fn is_bad(outcome: Outcome) -> bool
     matches!(outcome, Outcome::Bad)
 }
 
-// Carries out the line of a text that begins at `at`.
-fn run_at(words: &mut [u64], bytes: &mut [u8], text: &[u8], at: usize, opened: bool) -> LineDone
-    requires { (length text.now ≤ 4096) × (at ≤ length text.now) }
-    ensures { RunsAt opened text.now at (areas_of words.old bytes.old) result
-        (areas_of words.new bytes.new) }
-{
-    let rest = &text[at..];
-    let end = line_end(rest);
-    let outcome = run_line(words, bytes, opened, &rest[..end]);
-    LineDone {
-        outcome,
-        next: at + end + 1,
-    }
-}
-
 // Carries out the lines of a text and puts their rows into `out` from its front. A line takes a byte of the text or
 // more, and its row has 107 bytes at most.
 pub fn run_text(
@@ -63,10 +41,9 @@ pub fn run_text(
 {
     let mut opened = opened;
     let mut filled: usize = 0;
-    let mut at: usize = 0;
-    while at < text.len() {
-        let done = run_at(words, bytes, text, at, opened);
-        let outcome = done.outcome;
+    for row in text.split_inclusive(|byte| *byte == b'\n') {
+        let line = &row[..line_end(row)];
+        let outcome = run_line(words, bytes, opened, line);
         filled = put_outcome(out, filled, outcome);
         if is_bad(outcome) {
             return TextDone {
@@ -76,7 +53,6 @@ pub fn run_text(
             };
         }
         opened = true;
-        at = done.next;
     }
     TextDone {
         opened,

@@ -61,8 +61,8 @@ unfoldable pub joined : List (List ℕ) → List ℕ
 joined [] = []
 joined (read ∷ reads) = read ++ joined reads
 
--- How many of the buffer's first n bytes are carried out: the input has ended where no more are there than were kept.
-pub record Ready (buffer : List ℕ) (kept n r : ℕ) : Type 0 where
-  pub count : r ≡ ready_of (eqb n kept) (take n buffer)
-  pub among : r ≤ n
-  pub few_left : n - r ≤ longest
+-- How many of the bytes that are there are carried out: the input has ended where no more are there than were kept.
+pub record Ready (there : List ℕ) (kept r : ℕ) : Type 0 where
+  pub count : r ≡ ready_of (eqb (length there) kept) there
+  pub among : r ≤ length there
+  pub few_left : length there - r ≤ longest

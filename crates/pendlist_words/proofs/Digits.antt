@@ -9,11 +9,10 @@ use native.Mathlib.Omega.{arith}
 use lib.ListN.{length, get_or, drop, drop_of_length-le}
 use lib.Seq.{drop-cons}
 use lib.Dec.{leb, eqb}
-use Rattle.std.specs.Prelude.{◌&&◌}
 use Rattle.std.specs.Str.{bytes_eq}
 use Rattle.std.specs.Char.{is_ascii_digit}
 use borrow.Author.Tests.{le-leb, lt-leb, leb-true, leb-false, ne_eqb}
-use Rattle.std.specs.Prelude.{Option, Some, None, SomeIff, ◌^◌}
+use Rattle.std.specs.Prelude.{◌&&◌, Option, Some, None, SomeIff, ◌^◌}
 use Rattle.pendlist_words.specs.Words.{is_digit, all_digits, value_from, most, number_from, number_of, is_byte}
 use Rattle.pendlist_words.specs.Digits.{with_digit}
 

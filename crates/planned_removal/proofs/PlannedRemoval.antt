@@ -1,16 +1,16 @@
--- The planned removal, with the limits and the figures that were read. Assumes nothing.
+-- The planned removal, with the header that was read. Assumes nothing.
 use mathlib.Core.Path.{◌≡◌, refl, sym, ap, ◌∙◌}
 use mathlib.Core.Bool.{true}
 use mathlib.Core.List.{List, [], ◌∷◌}
 use Prim.Native.Nat.{ℕ, zero, suc, ◌+◌, ◌≤◌, ◌<◌}
 use native.Mathlib.Omega.{arith}
 use lib.ListN.{length, get_or, set, take, replicate, take-append-drop, get_or-replicate}
-use Rattle.config.specs.declared.PendingFlowsConfig.{PendingFlowsConfig}
 use Rattle.config.proofs.Limits.{cap_small}
 use Rattle.config.proofs.Lists.{All, all_map, all_both}
 use Rattle.table.specs.declared.TemplateRecord.{TemplateRecord}
 use Rattle.table.specs.Layout.{limits_of, held_count, records_at}
 use Rattle.table.specs.Table.{table_of, records}
+use Rattle.table.specs.Reads.{label_or_none}
 use Rattle.table.specs.WellFormed.{well_formed}
 use Rattle.table.proofs.Facts.{LegalRecord, words_say}
 use Rattle.table_entries.specs.declared.StayTest.{StayTest}
@@ -20,7 +20,8 @@ use Rattle.table_entries.proofs.Swept.{swept_alike}
 use Rattle.table_view.proofs.AllStay.{unaged_stay}
 use Rattle.table_records.specs.Choose.{skip_all, set_each, skipping}
 use Rattle.pending_flows.specs.declared.header.HeaderFigures.{HeaderFigures}
-use Rattle.pending_flows.specs.Header.{figures_at}
+use Rattle.pending_flows.specs.declared.header.Header.{Header}
+use Rattle.pending_flows.specs.Header.{HoldsCache}
 use Rattle.pending_calls.specs.declared.removal.Removed.{Removed}
 use Rattle.pending_calls.specs.Removal.{everything, SkipsWhole, Removes, RemovesFrom}
 use Rattle.pending_calls.proofs.NoneRemoved.{removes_alike, all_swept_stay}
@@ -30,20 +31,20 @@ use Rattle.offer_plan.proofs.Skips.{skips_long}
 use Rattle.offer_plan.proofs.Tables.{short}
 use Rattle.planned_removal.specs.Planned.{RemovesPlanned}
 
-module _ (w : List ℕ) (n : ℕ) (ok : well_formed w n ≡ true) (clock apart : ℕ) (plan : OfferPlan) {w' : List ℕ}
-    {r : Removed} where
+module _ (w : List ℕ) (n : ℕ) {h : Header} (holds : HoldsCache h w n) (clock apart : ℕ) (plan : OfferPlan)
+    {w' : List ℕ} {r : Removed} where
   -- where nothing goes
   pub none_planned : KeepsAll w clock plan → plan.none ≡ true →
       RemovesFrom everything apart (replicate 1024 0)
       w w' r →
       RemovesPlanned clock plan apart w w' r
-  none_planned keeps none done = removes_alike (all_swept_stay w n ok ∙ sym (keeps none)) done
+  none_planned keeps none done = removes_alike (all_swept_stay w n holds.legal ∙ sym (keeps none)) done
 
-  pub removed_planned : (f : HeaderFigures) (l : PendingFlowsConfig) (p : ℕ) (t : StayTest) (skip : List ℕ) →
-      f ≡ figures_at w → l ≡ limits_of w → p ≡ records_at l → t ≡ plan_test l clock plan → skip ≡ skip_of w plan →
-      Removes t p (f.templates + f.chance) f.entries apart skip w w' r →
+  pub removed_planned : (p : ℕ) (t : StayTest) (skip : List ℕ) → p ≡ records_at h.limits →
+      t ≡ plan_test h.limits clock plan → skip ≡ skip_of w plan →
+      Removes t p (h.figures.templates + h.figures.chance) h.figures.entries apart skip w w' r →
       RemovesPlanned clock plan apart w w' r
-  removed_planned f l p t skip is limits from test skips done = rw (test, skips, is, from, limits) at done
+  removed_planned p t skip from test skips done = rw (test, skips, holds.figures, from, holds.limits) at done
 
 -- ---- only whole templates go
 
@@ -69,7 +70,7 @@ module _ (w b : List ℕ) (ok : well_formed w (length b) ≡ true) (clock apart 
   unfolding skip_of AllOrNone
   planned_at k small =
       let leaving = take plan.evicted (table_of w).held in
-      one_more (skipping (skipping zeros leaving) (table_of w).handed) plan.first k
+      one_more (skipping (skipping zeros leaving) (table_of w).handed) (label_or_none plan.first) k
       (each_more (skipping zeros leaving) (table_of w).handed k
       (each_more zeros leaving k
       (λ some. absurd (omega (arith, get_or-replicate {A = ℕ} 1024 k 0 0 small)))))

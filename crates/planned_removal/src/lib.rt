@@ -1,19 +1,19 @@
 // Removing what the plan of an offer removes (pending_flows.rs).
 #![tactic(auto)]
 
-ghost use Rattle.std.specs.Prelude.{◌≡◌, true, ◌+◌, ◌≤◌, ◌<◌, length};
-ghost use Rattle.table.specs.Layout.{limits_of, held_count};
-ghost use Rattle.table.specs.WellFormed.{well_formed};
-ghost use Rattle.pending_flows.specs.Header.{figures_at};
+ghost use Rattle.std.specs.Prelude.{◌≡◌, Some, true, ℕ, ◌≤◌, length};
+ghost use Rattle.table.specs.Layout.{held_count};
+ghost use Rattle.table.specs.Reads.{label_or_none};
+ghost use Rattle.pending_flows.specs.Header.{HoldsCache};
 ghost use Rattle.offer_plan.specs.Plan.{plan_test, KeepsAll, NoneExpired};
 ghost use Rattle.planned_removal.specs.Planned.{RemovesPlanned};
 ghost use Rattle.planned_removal.specs.Alone.{GoesAlone, OnlyExpired};
 
 use config::PendingFlowsConfig;
 use offer_plan::{OfferPlan, skip_planned};
-use pending_calls::{Removed, remove, remove_none, remove_whole};
-use pending_flows::HeaderFigures;
-use table::{LABELS, first_label, records_at};
+use pending_calls::{Removed, remove, remove_none, remove_whole, stay_all};
+use pending_flows::{Header, HeaderFigures};
+use table::{LABELS, first_label, label_number, records_at, records_in};
 use table_entries::StayTest;
 use template_removal::{remove_expired_of, remove_template};
 
@@ -26,31 +26,31 @@ fn stay_test(limits: PendingFlowsConfig, clock: u64, plan: OfferPlan) -> StayTes
         ttl,
         clock,
         all: plan.all,
-        label: plan.label,
+        label: label_number(plan.label),
         max_size: u64::MAX,
     }
 }
 
-// Sweeps by the plan, and closes. The record of the label `apart` goes though its bodies stay.
+// Sweeps by the plan, and closes. The record of the label `apart`, if one is told, goes though its bodies stay.
 fn remove_skipped(
     words: &mut [u64],
     bytes: &[u8],
-    limits: PendingFlowsConfig,
-    figures: HeaderFigures,
+    header: Header,
     plan: OfferPlan,
     clock: u64,
-    apart: u64,
+    apart: Option<u64>,
 ) -> Removed
-    requires bytes_value { (well_formed words.old (length bytes.now) ≡ true) × (limits ≡ limits_of words.old) }
-    requires figures_value { (figures ≡ figures_at words.old) × (plan.evicted ≤ held_count words.old) }
+    requires header_value { HoldsCache header words.old (length bytes.now) }
+    requires plan_value { plan.evicted ≤ held_count words.old }
     requires none_expired { NoneExpired words.old clock plan }
-    ensures { RemovesPlanned clock plan apart words.old words.new result }
+    ensures { RemovesPlanned clock plan (label_or_none apart) words.old words.new result }
 {
     let mut skip = [0u32; LABELS];
-    skip_planned(words, bytes, limits, figures, plan, &mut skip);
+    skip_planned(words, bytes, header, plan, &mut skip);
     if plan.none_expired {
-        return remove_whole(words, bytes, limits, figures, &mut skip, apart);
+        return remove_whole(words, bytes, header, stay_all(), &mut skip, apart, None);
     }
+    let Header { limits, figures } = header;
     let records = (figures.templates + figures.chance) as usize;
     remove(
         words,
@@ -64,43 +64,39 @@ fn remove_skipped(
 }
 
 // Where nothing is handed out and the plan says that no body goes as expired: the label of the one template that goes,
-// where no other does; else what is no label.
-pub fn alone_label(
-    words: &[u64],
-    bytes: &[u8],
-    limits: PendingFlowsConfig,
-    figures: HeaderFigures,
-    plan: OfferPlan,
-) -> u64
-    requires bytes_value { (well_formed words.now (length bytes.now) ≡ true) × (limits ≡ limits_of words.now) }
-    requires figures_value { figures ≡ figures_at words.now }
-    ensures { result < 1024 → GoesAlone words.now plan result }
+// where no other does.
+#[tactic(auto, using(crate::proofs::AloneGoing::none_alone, crate::proofs::AloneGoing::least_alone))]
+pub fn alone_label(words: &[u64], bytes: &[u8], header: Header, plan: OfferPlan) -> Option<u64>
+    requires { HoldsCache header words.now (length bytes.now) }
+    ensures { (label : ℕ) → result ≡ Some label → GoesAlone words.now plan label }
 {
+    let Header { limits, figures } = header;
     if !plan.none_expired {
-        return LABELS as u64;
+        return None;
     }
     if figures.chance != 0 {
-        return LABELS as u64;
+        return None;
     }
     if plan.evicted == 0 {
         return plan.first;
     }
     if plan.evicted != 1 {
-        return LABELS as u64;
+        return None;
     }
-    if plan.first < (LABELS as u64) {
-        return LABELS as u64;
+    if plan.first.is_some() {
+        return None;
     }
-    first_label(words, records_at(limits), figures.templates as usize)
+    let records = records_in(words, records_at(limits), figures.templates as usize);
+    first_label(records)
 }
 
 // Whether nothing but expired bodies of the id may go, and its record is the one that goes.
-fn only_expired(figures: HeaderFigures, plan: OfferPlan, apart: u64) -> bool
+fn only_expired(figures: HeaderFigures, plan: OfferPlan, apart: Option<u64>) -> bool
     ensures { result ≡ true → OnlyExpired figures plan apart }
 {
     figures.chance == 0
         && plan.evicted == 0
-        && (LABELS as u64) <= plan.first
+        && plan.first.is_none()
         && !plan.all
         && plan.label == apart
 }
@@ -109,45 +105,42 @@ fn only_expired(figures: HeaderFigures, plan: OfferPlan, apart: u64) -> bool
 fn remove_some(
     words: &mut [u64],
     bytes: &[u8],
-    limits: PendingFlowsConfig,
-    figures: HeaderFigures,
+    header: Header,
     plan: OfferPlan,
     clock: u64,
-    apart: u64,
+    apart: Option<u64>,
 ) -> Removed
-    requires bytes_value { (well_formed words.old (length bytes.now) ≡ true) × (limits ≡ limits_of words.old) }
-    requires figures_value { (figures ≡ figures_at words.old) × (plan.evicted ≤ held_count words.old) }
+    requires header_value { HoldsCache header words.old (length bytes.now) }
+    requires plan_value { plan.evicted ≤ held_count words.old }
     requires none_expired { NoneExpired words.old clock plan }
-    ensures { RemovesPlanned clock plan apart words.old words.new result }
+    ensures { RemovesPlanned clock plan (label_or_none apart) words.old words.new result }
 {
-    let label = alone_label(words, bytes, limits, figures, plan);
-    if label < (LABELS as u64) {
-        return remove_template(words, bytes, limits, figures, label, apart);
+    if let Some(label) = alone_label(words, bytes, header, plan) {
+        return remove_template(words, bytes, header, label, apart);
     }
-    if only_expired(figures, plan, apart) {
-        return remove_expired_of(words, bytes, limits, figures, clock, apart);
+    if only_expired(header.figures, plan, apart) {
+        return remove_expired_of(words, bytes, header, clock, label_number(apart));
     }
-    remove_skipped(words, bytes, limits, figures, plan, clock, apart)
+    remove_skipped(words, bytes, header, plan, clock, apart)
 }
 
 // Removes what the plan removes. No entry is looked at where it is certain that nothing goes.
 pub fn remove_planned(
     words: &mut [u64],
     bytes: &[u8],
-    limits: PendingFlowsConfig,
-    figures: HeaderFigures,
+    header: Header,
     plan: OfferPlan,
     clock: u64,
-    apart: u64,
+    apart: Option<u64>,
 ) -> Removed
-    requires bytes_value { (well_formed words.old (length bytes.now) ≡ true) × (limits ≡ limits_of words.old) }
-    requires figures_value { (figures ≡ figures_at words.old) × (plan.evicted ≤ held_count words.old) }
-    requires keeps_all { KeepsAll words.old clock plan × (plan.none ≡ true → figures.chance ≡ 0) }
+    requires header_value { HoldsCache header words.old (length bytes.now) }
+    requires plan_value { plan.evicted ≤ held_count words.old }
+    requires keeps_all { KeepsAll words.old clock plan × (plan.none ≡ true → header.figures.chance ≡ 0) }
     requires none_expired { NoneExpired words.old clock plan }
-    ensures { RemovesPlanned clock plan apart words.old words.new result }
+    ensures { RemovesPlanned clock plan (label_or_none apart) words.old words.new result }
 {
     if plan.none {
-        return remove_none(words, bytes, limits, figures, apart);
+        return remove_none(words, bytes, header, apart);
     }
-    remove_some(words, bytes, limits, figures, plan, clock, apart)
+    remove_some(words, bytes, header, plan, clock, apart)
 }

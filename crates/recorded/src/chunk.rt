@@ -2,7 +2,6 @@
 ghost use Rattle.std.specs.Prelude.{◌≡◌, ◌-◌, ◌≤◌, length, take, drop};
 ghost use Rattle.std.specs.Io.KnownBytes.{Consumes};
 ghost use Rattle.std.specs.List.{copy_within};
-ghost use Rattle.pendlist_input.specs.Input.{whole_lines};
 
 use std::io::Read;
 
@@ -38,6 +37,7 @@ pub fn read_full<R: Read>(reader: &mut R, buffer: &mut [u8]) -> usize
 }
 
 // Reads the text into the buffer behind its first `kept` bytes, and answers how many bytes it then has.
+// The whole buffer and a place, no part: what is promised is of the bytes that are kept too.
 pub fn fill<R: Read>(reader: &mut R, buffer: &mut [u8], kept: usize) -> usize
     requires { kept ≤ length buffer.old }
     ensures within { result ≤ length buffer.old }
@@ -48,21 +48,12 @@ pub fn fill<R: Read>(reader: &mut R, buffer: &mut [u8], kept: usize) -> usize
     kept + more
 }
 
-// The length of the whole lines among the first n bytes.
-pub fn whole_lines(buffer: &[u8], n: usize) -> usize
-    requires { n ≤ length buffer.now }
-    ensures last { result ≡ whole_lines (take n buffer.now) }
-    ensures within { result ≤ n }
+// Moves the bytes from `from` on to the front, and answers how many they are.
+pub fn move_to_front(buffer: &mut [u8], from: usize) -> usize
+    requires { from ≤ length buffer.old }
+    ensures count { result ≡ length buffer.old - from }
+    ensures moved { buffer.new ≡ copy_within buffer.old from (length buffer.old) 0 }
 {
-    pendlist_input::whole_lines(&buffer[..n])
-}
-
-// Moves the bytes from `from` up to `end` to the front, and answers how many they are.
-pub fn move_to_front(buffer: &mut [u8], from: usize, end: usize) -> usize
-    requires { (from ≤ end) × (end ≤ length buffer.old) }
-    ensures count { result ≡ end - from }
-    ensures moved { buffer.new ≡ copy_within buffer.old from end 0 }
-{
-    buffer.copy_within(from..end, 0);
-    end - from
+    buffer.copy_within(from.., 0);
+    buffer.len() - from
 }

@@ -7,7 +7,8 @@ mod tally;
 ghost use Rattle.std.specs.Prelude.{◌<◌, ◌≤◌, length};
 ghost use Rattle.recorded.specs.Progress.{Onward};
 
-pub use chunk::{BUFFER, fill, move_to_front, read_full, whole_lines};
+pub use chunk::{BUFFER, fill, move_to_front, read_full};
+pub use pendlist_input::whole_lines;
 pub use tally::Tally;
 
 // A number of the text, and where the text goes on after it.

@@ -1,7 +1,5 @@
 // The bodies of the recorded offers: byte i of the body of offer k is
 //     (7 × k + (2 × (k / 256) + 1) × i) modulo 256
-ghost use Rattle.std.specs.Prelude.{◌≤◌};
-
 // The first byte of the body of offer k.
 fn first_byte(k: u64) -> u8 {
     (k % 256 * 7 % 256) as u8
@@ -15,18 +13,14 @@ fn rise(k: u64) -> u8 {
 // No body of a list is longer.
 pub const LONGEST: usize = 2048;
 
-// The body of offer k, `len` bytes of it.
-pub fn body_of(k: u64, len: usize) -> [u8; LONGEST]
-    requires { len ≤ 2048 }
-{
-    let mut body = [0u8; LONGEST];
+// Fills the body of offer k.
+pub fn fill_body(body: &mut [u8], k: u64) {
     let step = rise(k);
     let mut byte = first_byte(k);
-    for place in body[..len].iter_mut() {
+    for place in body.iter_mut() {
         *place = byte;
         byte = byte.wrapping_add(step);
     }
-    body
 }
 
 // Whether every byte is that of the body of offer k.

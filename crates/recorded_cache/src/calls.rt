@@ -1,5 +1,5 @@
 // The calls of a recorded list. Each answers with document 01's number and a value.
-use super::bodies::{LONGEST, body_of};
+use super::bodies::{LONGEST, fill_body};
 use super::rows::Call;
 use config::PendingFlowsConfig;
 use pending_calls::clear;
@@ -57,12 +57,12 @@ fn limits_of(args: [u64; 8]) -> PendingFlowsConfig {
 
 // Offers the body of offer k.
 fn run_offer(words: &mut [u64], bytes: &mut [u8], args: [u64; 8], k: u64) -> Answered {
-    let len = args[1] as usize;
-    if LONGEST < len {
+    let mut room = [0u8; LONGEST];
+    let Some(body) = room.get_mut(..args[1] as usize) else {
         return NO_CALL;
-    }
-    let body = body_of(k, len);
-    let answer = cache(words, bytes, id_of(args[0]), &body[..len], args[2]);
+    };
+    fill_body(body, k);
+    let answer = cache(words, bytes, id_of(args[0]), body, args[2]);
     told(answer.map(|()| 0))
 }
 

@@ -2,14 +2,7 @@
 //     call arguments number value templates bodies bytes cached dropped handed listed list
 ghost use Rattle.std.specs.Prelude.{◌≤◌};
 
-use recorded::{goes_on, next_number};
-
-// Up to eight numbers of a line, and where the line goes on.
-#[derive(Drop)]
-struct Numbers {
-    values: [u64; 8],
-    next: usize,
-}
+use recorded::{Number, next_number, number_on};
 
 // A row up to its list.
 #[derive(Clone, Copy)]
@@ -19,26 +12,19 @@ pub struct Row {
     pub args: [u64; 8],
     // number, value, and six figures
     pub told: [u64; 8],
-    // whether the line has all of these
-    pub whole: bool,
-    // whether a list follows
-    pub listed: bool,
-    // where the list begins
-    pub next: usize,
+    // 1 where a list follows, and where it begins; none where the line is cut short before
+    pub listed: Option<Number>,
 }
 
-// Reads n numbers from `at` on.
-fn read_numbers(line: &[u8], at: usize, n: usize) -> Numbers
-    requires { n ≤ 8 }
-{
-    let mut values = [0u64; 8];
+// Fills the room with numbers of the line, and answers where the line goes on.
+fn read_numbers(line: &[u8], at: usize, room: &mut [u64]) -> usize {
     let mut next = at;
-    for value in values[..n].iter_mut() {
+    for value in room.iter_mut() {
         let read = next_number(line, next);
         *value = read.value;
         next = read.next;
     }
-    Numbers { values, next }
+    next
 }
 
 // A call of a list.
@@ -95,18 +81,16 @@ fn argument_count(call: Option<Call>) -> usize
 pub fn read_row(line: &[u8]) -> Row {
     let number = next_number(line, 0);
     let call = Call::try_from(number.value).ok();
-    let arguments = read_numbers(line, number.next, argument_count(call));
-    let answer = read_numbers(line, arguments.next, 8);
-    let whole = goes_on(line, answer.next);
-    let listed = next_number(line, answer.next);
-    let args = arguments.values;
-    let told = answer.values;
+    let mut args = [0u64; 8];
+    let mut told = [0u64; 8];
+    let n = argument_count(call);
+    let after_arguments = read_numbers(line, number.next, &mut args[..n]);
+    let after_answer = read_numbers(line, after_arguments, &mut told);
+    let listed = number_on(line, after_answer);
     Row {
         call,
         args,
         told,
-        whole,
-        listed: listed.value == 1,
-        next: listed.next,
+        listed,
     }
 }

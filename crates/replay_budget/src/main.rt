@@ -85,12 +85,12 @@ fn main(rt: HostRuntime) {
     let mut kept = 0;
     for _ in 0..BUFFERS {
         let n = fill(&mut reader, &mut buffer, kept);
-        let lines = whole_lines(&buffer, n);
+        let lines = whole_lines(&buffer[..n]);
         if lines == 0 {
             break;
         }
         run_rows(&rt, &buffer[..lines], &mut replay);
-        kept = move_to_front(&mut buffer, lines, n);
+        kept = move_to_front(&mut buffer[..n], lines);
     }
     replay.tally.print(&rt);
 }

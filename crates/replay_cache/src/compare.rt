@@ -55,9 +55,9 @@ pub fn compare(
     offered: &[u64],
 ) -> Verdict {
     let told = row.told;
-    if !row.whole {
+    let Some(listed) = row.listed else {
         return Verdict::Length;
-    }
+    };
     if got.number != told[0] {
         return Verdict::Number;
     }
@@ -67,16 +67,12 @@ pub fn compare(
     if !same_figures(words, bytes, told) {
         return Verdict::Figure;
     }
-    if !row.listed {
-        if goes_on(line, row.next) {
-            return Verdict::List;
-        }
-        return Verdict::Same;
-    }
-    if same_list(words, bytes, line, row.next, told[7] as usize, offered) {
-        return Verdict::Same;
-    }
-    Verdict::List
+    let same = if listed.value == 1 {
+        same_list(words, bytes, line, listed.next, told[7] as usize, offered)
+    } else {
+        !goes_on(line, listed.next)
+    };
+    if same { Verdict::Same } else { Verdict::List }
 }
 
 // Says what of a row differs, before the row is named.

@@ -29,7 +29,7 @@ fn main(rt: HostRuntime) {
     let mut kept: usize = 0;
     for _ in 0..BUFFERS {
         let n = fill(&mut reader, &mut buffer, kept);
-        let lines = whole_lines(&buffer, n);
+        let lines = whole_lines(&buffer[..n]);
         if lines == 0 {
             break;
         }
@@ -41,7 +41,7 @@ fn main(rt: HostRuntime) {
             &buffer[..lines],
             replay,
         );
-        kept = move_to_front(&mut buffer, lines, n);
+        kept = move_to_front(&mut buffer[..n], lines);
     }
     print_replay(&rt, replay);
 }

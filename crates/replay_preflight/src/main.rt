@@ -7,7 +7,7 @@
 ghost use Rattle.std.specs.Prelude.{◌≡◌};
 ghost use Rattle.replay_preflight.specs.Same.{same_figures};
 
-use output_preflight::Figures;
+use output_preflight::{Figures, preflight};
 use recorded::{
     BUFFER, BUFFERS, Tally, fill, goes_on, move_to_front, next_number, number_on, whole_lines,
 };
@@ -22,17 +22,16 @@ fn reading_of(n: u64) -> Reading {
     }
 }
 
-// Reads n widths or bytes, as far as there is room, and answers where the text goes on.
+// Fills the room with widths or bytes of the text, and answers where the text goes on.
 fn read_numbers<T: Copy, F: Fn(u64) -> T>(
     text: &[u8],
     mut at: usize,
-    n: usize,
     room: &mut [T],
     of_number: F,
 ) -> usize
     requires { F.IsAlwaysCallable of_number }
 {
-    for place in room.iter_mut().take(n) {
+    for place in room.iter_mut() {
         let read = next_number(text, at);
         *place = of_number(read.value);
         at = read.next;
@@ -65,43 +64,27 @@ fn is_recorded(row: &[u8], at: usize, got: Figures) -> bool {
     same_figures(got, recorded) && !goes_on(row, remainder.next)
 }
 
-// The preflight on the first bytes and widths of their rooms; a number of none where they are more than the room.
-fn run_preflight(
-    body: &[u8],
-    body_len: usize,
-    widths: &[u16],
-    fields: usize,
-    reading: u64,
-    limit: u64,
-) -> Figures {
-    let (Some(body), Some(widths)) = (body.get(..body_len), widths.get(..fields)) else {
-        return no_room();
-    };
-    Figures::from(output_preflight::preflight(body, widths, reading_of(reading), limit as usize))
-}
-
-// No answer has this number: the row differs.
-fn no_room() -> Figures {
-    Figures {
-        number: 255,
-        values: 0,
-        payload: 0,
-        remainder: 0,
-    }
-}
-
-// Runs a row, and answers whether it is as recorded.
+// Runs a row, and answers whether it is as recorded; one with more widths or bytes than there is room for differs.
 fn run_row(row: &[u8], widths: &mut [u16], body: &mut [u8]) -> bool {
     let reading = next_number(row, 0);
     let limit = next_number(row, reading.next);
     let n = next_number(row, limit.next);
-    let fields = n.value as usize;
-    let after_widths = read_numbers(row, n.next, fields, widths, |n| (n % 65536) as u16);
+    let Some(widths) = widths.get_mut(..n.value as usize) else {
+        return false;
+    };
+    let after_widths = read_numbers(row, n.next, widths, |n| (n % 65536) as u16);
     let m = next_number(row, after_widths);
-    let body_len = m.value as usize;
-    let after_body = read_numbers(row, m.next, body_len, body, |n| (n % 256) as u8);
-    let got = run_preflight(body, body_len, widths, fields, reading.value, limit.value);
-    is_recorded(row, after_body, got)
+    let Some(body) = body.get_mut(..m.value as usize) else {
+        return false;
+    };
+    let after_body = read_numbers(row, m.next, body, |n| (n % 256) as u8);
+    let answer = preflight(
+        body,
+        widths,
+        reading_of(reading.value),
+        limit.value as usize,
+    );
+    is_recorded(row, after_body, Figures::from(answer))
 }
 
 // Runs the rows of a text, a line each, and names those that differ.
@@ -129,12 +112,12 @@ fn main(rt: HostRuntime) {
     let mut kept: usize = 0;
     for _ in 0..BUFFERS {
         let n = fill(&mut reader, &mut buffer, kept);
-        let lines = whole_lines(&buffer, n);
+        let lines = whole_lines(&buffer[..n]);
         if lines == 0 {
             break;
         }
         tally = run_rows(&rt, &buffer[..lines], tally);
-        kept = move_to_front(&mut buffer, lines, n);
+        kept = move_to_front(&mut buffer[..n], lines);
     }
     tally.print(&rt);
 }

@@ -1,13 +1,14 @@
 // Cutting to the new number of templates, entry size and cap.
-ghost use Rattle.std.specs.Prelude.{◌≡◌, ◌+◌, ◌*◌, ◌-◌, ◌≤◌, length};
+ghost use Rattle.std.specs.Prelude.{◌≡◌, ◌+◌, ◌*◌, ◌≤◌, length};
 ghost use Rattle.config.specs.Limits.{record_words, entry_words};
 ghost use Rattle.table.specs.Layout.{entries_at};
-ghost use Rattle.table.specs.Table.{entries_from, records_from};
+ghost use Rattle.table.specs.Parts.{entries_of, templates_of};
 ghost use Rattle.resize_steps.specs.Cut.{small_enough, cut_skips, Cuts};
 
-use config::{PendingFlowsConfig, RECORD_WORDS};
+use config::{ENTRY_WORDS, PendingFlowsConfig, RECORD_WORDS};
 use pending_calls::{Removed, remove};
-use table::LABELS;
+use pending_flows::HeaderFigures;
+use table::{LABELS, entries_in, records_in};
 use table_entries::{StayTest, sums_by_label};
 use table_records::{skip_over, skip_records};
 
@@ -24,61 +25,53 @@ fn small_enough(config: PendingFlowsConfig) -> StayTest
     }
 }
 
-// How many of so many are beyond the most.
-fn beyond(many: usize, most: usize) -> usize
-    ensures { result ≡ many - most }
-{
-    many.saturating_sub(most)
-}
-
 // What is to be skipped: the oldest bodies beyond the new cap; all of the least recent templates beyond the new number,
 // and of the handed-out one. Those come last, since what is skipped of a label is set anew.
 fn skip_cut(
-    words: &[u64],
-    from: usize,
-    held: usize,
-    handed: usize,
-    entries: usize,
+    entries: &[[u64; ENTRY_WORDS]],
+    held: &[[u64; RECORD_WORDS]],
+    handed: &[[u64; RECORD_WORDS]],
     config: PendingFlowsConfig,
     skip: &mut [u32; LABELS],
 )
-    requires { (entries_at + entry_words * entries ≤ from) × (from + record_words * (held + handed)
-        ≤ length words.now) }
-    ensures { skip.new ≡ cut_skips config (records_from words.now from held)
-        (records_from words.now (from + record_words * held) handed)
-        (entries_from words.now entries_at entries) skip.old }
+    ensures { skip.new ≡ cut_skips config (templates_of held.now) (templates_of handed.now)
+        (entries_of entries.now) skip.old }
 {
     let mut counts = [0u32; LABELS];
-    sums_by_label(words, entries, small_enough(config), false, &mut counts);
-    skip_over(
-        words,
-        from,
-        held,
-        config.max_entries_per_template,
-        &counts,
-        skip,
-    );
-    skip_records(words, from, beyond(held, config.max_pending_flows), skip);
-    skip_records(words, from + RECORD_WORDS * held, handed, skip);
+    sums_by_label(entries, small_enough(config), false, &mut counts);
+    skip_over(held, config.max_entries_per_template, &counts, skip);
+    let beyond = held.len().saturating_sub(config.max_pending_flows);
+    skip_records(&held[..beyond], skip);
+    skip_records(handed, skip);
 }
 
 // Leaves as many templates as the new limits allow, the most recent, with the newest bodies that are small enough.
 // Nothing stays handed out.
+// The words and a place, no parts: `as_chunks_mut` says nothing of what the words end as.
+#[tactic(auto, using(crate::proofs::Steps::cut_lem))]
 pub fn cut(
     words: &mut [u64],
     from: usize,
-    held: usize,
-    handed: usize,
-    entries: usize,
+    figures: HeaderFigures,
     config: PendingFlowsConfig,
 ) -> Removed
-    requires entries_bound { (entries_at + entry_words * entries ≤ from) × (from + record_words * (held + handed)
-        ≤ length words.old) }
-    requires handed_bound { held + handed ≤ 1024 }
-    ensures { Cuts config from held handed entries words.old words.new result }
+    requires entries_bound { (entries_at + entry_words * figures.entries ≤ from) × (from
+        + record_words * (figures.templates + figures.chance) ≤ length words.old) }
+    requires handed_bound { figures.templates + figures.chance ≤ 1024 }
+    ensures { Cuts config from figures.templates figures.chance figures.entries
+        words.old words.new result }
 {
+    let entries = figures.entries as usize;
+    let held = figures.templates as usize;
+    let handed = figures.chance as usize;
     let mut skip = [0u32; LABELS];
-    skip_cut(words, from, held, handed, entries, config, &mut skip);
+    skip_cut(
+        entries_in(words, entries),
+        records_in(words, from, held),
+        records_in(words, from + RECORD_WORDS * held, handed),
+        config,
+        &mut skip,
+    );
     remove(
         words,
         from,
@@ -86,6 +79,6 @@ pub fn cut(
         entries,
         small_enough(config),
         &mut skip,
-        LABELS as u64,
+        None,
     )
 }

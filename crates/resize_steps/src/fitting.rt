@@ -2,71 +2,72 @@
 ghost use Rattle.std.specs.Prelude.{◌≡◌, true, ◌+◌, ◌*◌, ◌≤◌, length};
 ghost use Rattle.config.specs.Limits.{record_words, entry_words};
 ghost use Rattle.table.specs.Layout.{entries_at};
-ghost use Rattle.table.specs.Table.{entries_from, records_from};
+ghost use Rattle.table.specs.Parts.{entries_of, templates_of};
+ghost use Rattle.table.specs.Table.{entries_from};
 ghost use Rattle.table.specs.WellFormed.{places_legal};
 ghost use Rattle.table_entries.specs.Sums.{lens_sum};
 ghost use Rattle.resize_steps.specs.Fit.{total_skips, FitsTotal, FitsPlaces};
 
+use config::{ENTRY_WORDS, RECORD_WORDS};
 use pending_calls::{Removed, remove, stay_all};
-use table::LABELS;
+use table::{LABELS, entries_in, records_in};
 use table_entries::{last_end, pack_bodies, sums_by_label};
 use table_records::{evictions_of, skip_records};
 
 // What is to be skipped: all of the least recent templates, until the others' bytes are at most `room`.
 fn skip_total(
-    words: &[u64],
-    from: usize,
-    records: usize,
-    entries: usize,
+    entries: &[[u64; ENTRY_WORDS]],
+    records: &[[u64; RECORD_WORDS]],
     total: u64,
     room: u64,
     skip: &mut [u32; LABELS],
 )
-    requires entries_bound { (entries_at + entry_words * entries ≤ from) × (from + record_words * records ≤ length words.now) }
-    requires total_value { total ≡ lens_sum (entries_from words.now entries_at entries) }
-    ensures { skip.new ≡ total_skips room (records_from words.now from records)
-        (entries_from words.now entries_at entries) skip.old }
+    requires { total ≡ lens_sum (entries_of entries.now) }
+    ensures { skip.new ≡ total_skips room (templates_of records.now) (entries_of entries.now)
+        skip.old }
 {
     let mut sizes = [0u32; LABELS];
-    sums_by_label(words, entries, stay_all(), true, &mut sizes);
-    let evicted = evictions_of(words, from, records, room, total, &sizes);
-    skip_records(words, from, evicted, skip);
+    sums_by_label(entries, stay_all(), true, &mut sizes);
+    let evicted = evictions_of(records, room, total, &sizes);
+    skip_records(&records[..evicted], skip);
 }
 
-// Removes least recent templates until the bytes of the others are at most `room`; `total` bytes are there.
-pub fn fit_total(
-    words: &mut [u64],
-    from: usize,
-    records: usize,
-    entries: usize,
-    total: u64,
-    room: u64,
-) -> Removed
-    requires entries_bound { (entries_at + entry_words * entries ≤ from) × (from + record_words * records ≤ length words.old) }
-    requires records_bound { (records ≤ 1024) × (total ≡ lens_sum (entries_from words.old entries_at entries)) }
-    ensures { FitsTotal room from records entries words.old words.new result }
+// Of what a removal left, removes least recent templates until the bytes of the others are at most `room`.
+// The words and a place, no parts: `as_chunks_mut` says nothing of what the words end as.
+#[tactic(auto, using(crate::proofs::Steps::fit_total_lem))]
+pub fn fit_total(words: &mut [u64], from: usize, left: Removed, room: u64) -> Removed
+    requires entries_bound { (entries_at + entry_words * left.entries ≤ from) × (from + record_words * left.records ≤ length words.old) }
+    requires records_bound { (left.records ≤ 1024) × (left.bytes ≡ lens_sum (entries_from words.old entries_at left.entries)) }
+    ensures { FitsTotal room from left.records left.entries words.old words.new result }
 {
     let mut skip = [0u32; LABELS];
-    skip_total(words, from, records, entries, total, room, &mut skip);
+    skip_total(
+        entries_in(words, left.entries),
+        records_in(words, from, left.records),
+        left.bytes,
+        room,
+        &mut skip,
+    );
     remove(
         words,
         from,
-        records,
-        entries,
+        left.records,
+        left.entries,
         stay_all(),
         &mut skip,
-        LABELS as u64,
+        None,
     )
 }
 
 // Moves the bodies together where they end past `room`; else no body moves.
+// The words and how many entries, no parts: `as_chunks_mut` says nothing of what the words end as.
 pub fn fit_places(words: &mut [u64], bytes: &mut [u8], entries: usize, room: u64)
     requires { (entries_at + entry_words * entries ≤ length words.old) × (places_legal 0 (length bytes.old)
         (entries_from words.old entries_at entries) ≡ true) }
     ensures { FitsPlaces room entries words.old bytes.old words.new
         bytes.new }
 {
-    if last_end(words, entries) <= room {
+    if last_end(entries_in(words, entries)) <= room {
         return;
     }
     pack_bodies(words, bytes, entries);

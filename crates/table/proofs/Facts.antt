@@ -2,13 +2,14 @@
 -- holds (`words_hold`). Assumes nothing.
 use Rattle.std.proofs.Common.{◌≡◌, ℕ, ◌+◌, ◌<◌, ◌≤◌, Bool, true, not, eqb, ltb, leb, ◌≢◌, List, [], ◌∷◌, ◌++◌, length, refl, ltb-true, lt-ltb, eq-eqb, ne_eqb, eqb-true, le-leb, leb-true}
 use borrow.Author.Tests.{eqb-false, not-true}
+use Rattle.std.specs.List.{list_all}
 use Rattle.config.specs.declared.PendingFlowsConfig.{PendingFlowsConfig}
 use Rattle.config.specs.Limits.{header_words, max_bodies}
 use Rattle.table.specs.declared.Entry.{Entry}
 use Rattle.table.specs.declared.TemplateRecord.{TemplateRecord}
 use Rattle.table.specs.Layout.{limits_of, ttl_set, held_count, entry_count, chance_count}
 use Rattle.table.specs.Table.{Table, table_of, index, has_label, tally, sum_lens}
-use Rattle.table.specs.WellFormed.{every, all_differ, limits_legal, flags_legal, counts_legal, record_legal}
+use Rattle.table.specs.WellFormed.{all_differ, limits_legal, flags_legal, counts_legal, record_legal}
 use Rattle.table.specs.WellFormed.{entry_legal, places_legal, total_right, index_rises, table_legal, well_formed}
 use Rattle.config.proofs.Limits.{LegalLimits, limits_say, limits_hold}
 use Rattle.config.proofs.Tests.{and_left, and_right, and_both}
@@ -63,15 +64,15 @@ pub record LegalWords (w : List ℕ) (bytes : ℕ) : Type 0 where
   pub table_legal_lem : LegalTable (table_of w) (index w)
 
 pub every_says : {A : Type 0} (p : A → Bool) (P : A → Type 0) → ((x : A) → p x ≡ true → P x) → (xs : List A) →
-    every p xs ≡ true → All P xs
+    list_all p xs ≡ true → All P xs
 every_says p P f [] e = tt
 every_says p P f (x ∷ xs) e =
-    (f x (and_left (p x) (every p xs) e), every_says p P f xs (and_right (p x) (every p xs) e))
+    (f x (and_left (p x) (list_all p xs) e), every_says p P f xs (and_right (p x) (list_all p xs) e))
 
 pub every_holds : {A : Type 0} (p : A → Bool) (P : A → Type 0) → ((x : A) → P x → p x ≡ true) → (xs : List A) →
-    All P xs → every p xs ≡ true
+    All P xs → list_all p xs ≡ true
 every_holds p P f [] a = refl
-every_holds p P f (x ∷ xs) a = and_both (p x) (every p xs) (f x a.0) (every_holds p P f xs a.1)
+every_holds p P f (x ∷ xs) a = and_both (p x) (list_all p xs) (f x a.0) (every_holds p P f xs a.1)
 
 module _ (f : TemplateRecord → ℕ) where
   abbrev differs : TemplateRecord → TemplateRecord → Bool
@@ -81,14 +82,14 @@ module _ (f : TemplateRecord → ℕ) where
   differ_says [] e = tt
   differ_says (r ∷ rs) e = (
     every_says (differs r) (λ u. f r ≢ f u) (λ u h. eqb-false (f r) (f u) (not-true _ h)) rs
-        (and_left (every (differs r) rs) (all_differ f rs) e),
-    differ_says rs (and_right (every (differs r) rs) (all_differ f rs) e),
+        (and_left (list_all (differs r) rs) (all_differ f rs) e),
+    differ_says rs (and_right (list_all (differs r) rs) (all_differ f rs) e),
   )
 
   pub differ_holds : (rs : List TemplateRecord) → Differ f rs → all_differ f rs ≡ true
   differ_holds [] d = refl
   differ_holds (r ∷ rs) d =
-      and_both (every (differs r) rs) (all_differ f rs)
+      and_both (list_all (differs r) rs) (all_differ f rs)
       (every_holds (differs r) (λ u. f r ≢ f u) (λ u h. rw (ne_eqb (f r) (f u) h)) rs d.0) (differ_holds rs d.1)
 
 pub places_say : (from most : ℕ) (es : List Entry) → places_legal from most es ≡ true → Placed from most es
@@ -142,10 +143,10 @@ module _ (t : Table) (is : List ℕ) where
   all = t.held ++ t.handed
 
   abbrev records_test : Bool
-  records_test = every (record_legal t.limits t.entries) all
+  records_test = list_all (record_legal t.limits t.entries) all
 
   abbrev entries_test : Bool
-  entries_test = every (entry_legal t.limits all) t.entries
+  entries_test = list_all (entry_legal t.limits all) t.entries
 
   abbrev places_test : Bool
   places_test = places_legal 0 t.limits.max_total_bytes t.entries

@@ -114,11 +114,11 @@ occurs_tally i (e ∷ es) = ap (λ (n : ℕ). cond (eqb i e.label) (suc n) n) (o
 
 -- what an entry adds to the total
 module _ (out : ℕ) (e : Entry) where
-  pub handed_adds : e.label ≡ out → 0 ≡ held_len out e
+  handed_adds : e.label ≡ out → 0 ≡ held_len out e
   unfolding held_len
   handed_adds h = rw (eq-eqb _ _ h)
 
-  pub held_adds : (e.label ≡ out → ⊥) → e.len ≡ held_len out e
+  held_adds : (e.label ≡ out → ⊥) → e.len ≡ held_len out e
   unfolding held_len
   held_adds h = rw (ne_eqb _ _ h)
 

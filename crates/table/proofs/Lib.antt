@@ -1,4 +1,5 @@
 pub mod Words
+pub mod Parts
 pub mod Facts
 pub mod Draws
 pub mod Index

@@ -8,7 +8,6 @@ use Rattle.table.specs.declared.TemplateRecord.{TemplateRecord}
 use Rattle.table.specs.Layout.{word, ttl_set, ttl_of, limits_of}
 use Rattle.table.specs.Table.{entry_at, record_at, entries_from, records_from, index_from}
 use Rattle.table.specs.WellFormed.{key_at}
-use Rattle.table.specs.Passes.{first_label}
 
 -- the limits but the time to live are words
 abbrev limits_with : List ℕ → Option ℕ → PendingFlowsConfig
@@ -109,12 +108,3 @@ records_behind w p (suc n) k =
     let f : suc n + k ≡ suc (n + k) = omega arith in
     ap (λ (j : ℕ). drop (suc n) (records_from w p j)) f ∙ records_behind w (p + record_words) n k
     ∙ ap (λ (q : ℕ). records_from w q k) e
-
--- the label of the first record, where there is one
-module _ (w : List ℕ) (p n : ℕ) where
-  pub none_first : n ≡ 0 → 1024 ≡ first_label (records_from w p n)
-  unfolding records_from
-  none_first e = rw e
-
-  pub some_first : (r : TemplateRecord) → (n ≡ 0 → ⊥) → r ≡ record_at w p → r.label ≡ first_label (records_from w p n)
-  some_first r some is = rw (records_first w p n (omega arith) r is)

@@ -1,12 +1,17 @@
 -- What the passes over records and entries share.
+use Rattle.std.specs.Prelude.{Option, Some, None}
 use Rattle.std.specs.Prelude.{ℕ, ◌-◌, cond, List, [], ◌∷◌, ◌==◌, slice_index, slice_set}
 use Rattle.table.specs.declared.Entry.{Entry}
 use Rattle.table.specs.declared.TemplateRecord.{TemplateRecord}
+use Rattle.table.specs.Reads.{label_or_none}
 
--- the first record's label; where there is none, what is no label
+-- the first record's label, and the same with what is no label where there is none
+abbrev pub label_of_first : List TemplateRecord → Option ℕ
+label_of_first [] = None
+label_of_first (r ∷ rs) = Some r.label
+
 abbrev pub first_label : List TemplateRecord → ℕ
-first_label [] = 1024
-first_label (r ∷ rs) = r.label
+first_label rs = label_or_none (label_of_first rs)
 
 -- what an entry adds to the total: nothing where it is handed out
 unfoldable pub held_len : ℕ → Entry → ℕ

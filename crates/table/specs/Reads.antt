@@ -1,15 +1,15 @@
 -- What is read off the records and entries of a table.
 use Rattle.std.specs.Prelude.{Option, Some, None}
 use Rattle.std.specs.Prelude.{ℕ, ◌+◌, ◌%◌, ◌^◌, Bool, cond, not, ◌&&◌, List, [], ◌∷◌, ◌==◌}
+use Rattle.std.specs.List.{find}
 use Rattle.config.specs.Age.{expired_at}
 use Rattle.table.specs.declared.Entry.{Entry}
 use Rattle.table.specs.declared.TemplateRecord.{TemplateRecord}
 use Rattle.table.specs.declared.LiveFigures.{LiveFigures}
 
 -- the record with a key
-unfoldable pub record_of : ℕ → List TemplateRecord → Option TemplateRecord
-record_of key [] = None
-record_of key (r ∷ rs) = cond (key == r.key) (Some r) (record_of key rs)
+abbrev pub record_of : ℕ → List TemplateRecord → Option TemplateRecord
+record_of key rs = find (λ r. key == r.key) rs
 
 -- of a record that was found: its label, and how many bodies it counts
 abbrev pub label_in : Option TemplateRecord → Option ℕ

@@ -1,6 +1,7 @@
 -- When words, beside so many bytes, hold a well-formed table: number 28 answers where they do not.
 -- docs/LAYOUT.md maps each fault of document 01's list to its test.
 use Rattle.std.specs.Prelude.{ℕ, ◌+◌, Bool, true, not, ◌&&◌, List, [], ◌∷◌, ◌++◌, length, ◌==◌, nat_le, nat_lt, slice_index_or}
+use Rattle.std.specs.List.{list_all}
 use Rattle.config.specs.declared.PendingFlowsConfig.{PendingFlowsConfig}
 use Rattle.config.specs.Limits.{header_words, max_bodies, config_number}
 use Rattle.table.specs.declared.Entry.{Entry}
@@ -8,14 +9,10 @@ use Rattle.table.specs.declared.TemplateRecord.{TemplateRecord}
 use Rattle.table.specs.Layout.{limits_of, ttl_set, held_count, entry_count, chance_count}
 use Rattle.table.specs.Table.{Table, table_of, index, has_label, tally, sum_lens}
 
-abbrev pub every : {A : Type 0} → (A → Bool) → List A → Bool
-every p [] = true
-every p (x ∷ xs) = p x && every p xs
-
 -- no two records have the same figure
 abbrev pub all_differ : (TemplateRecord → ℕ) → List TemplateRecord → Bool
 all_differ f [] = true
-all_differ f (r ∷ rs) = every (λ u. not (f r == f u)) rs && all_differ f rs
+all_differ f (r ∷ rs) = list_all (λ u. not (f r == f u)) rs && all_differ f rs
 
 -- the limits are legal for these areas
 abbrev pub limits_legal : List ℕ → ℕ → Bool
@@ -60,9 +57,9 @@ index_rises rs low (i ∷ is) = nat_lt i (length rs) && (nat_le low (key_at rs i
 
 abbrev pub table_legal : Table → List ℕ → Bool
 table_legal t is =
-    every (record_legal t.limits t.entries) (t.held ++ t.handed) &&
+    list_all (record_legal t.limits t.entries) (t.held ++ t.handed) &&
     (all_differ (λ r. r.key) (t.held ++ t.handed) && (all_differ (λ r. r.label) (t.held ++ t.handed) &&
-    (every (entry_legal t.limits (t.held ++ t.handed)) t.entries &&
+    (list_all (entry_legal t.limits (t.held ++ t.handed)) t.entries &&
     (places_legal 0 t.limits.max_total_bytes t.entries &&
     (total_right t && index_rises (t.held ++ t.handed) 0 is)))))
 

@@ -1,11 +1,12 @@
 // Where the words of a table stand, and what they say (docs/LAYOUT.md).
-ghost use Rattle.std.specs.Prelude.{◌≡◌, ◌+◌, ◌≤◌, length};
+ghost use Rattle.std.specs.Prelude.{◌≡◌, ◌+◌, ◌*◌, ◌≤◌, length};
 ghost use Rattle.config.specs.Limits.{header_words, record_words, entry_words, max_bodies};
-ghost use Rattle.table.specs.Layout.{ttl_of, limits_of, records_at};
-ghost use Rattle.table.specs.Table.{entry_at, record_at};
+ghost use Rattle.table.specs.Layout.{ttl_of, limits_of, entries_at, records_at};
+ghost use Rattle.table.specs.Table.{entry_at, record_at, entries_from, records_from, index_from};
+ghost use Rattle.table.specs.Parts.{entry_of, template_of, entries_of, templates_of, index_of};
 
 use super::{Entry, TemplateRecord};
-use config::{ENTRY_WORDS, HEADER_WORDS, PendingFlowsConfig};
+use config::{ENTRY_WORDS, HEADER_WORDS, PendingFlowsConfig, RECORD_WORDS};
 
 // The header's words.
 const MAX_PENDING_FLOWS: usize = 0;
@@ -58,6 +59,48 @@ pub fn record_at(words: &[u64], p: usize) -> TemplateRecord
         label: words[p + 1],
         count: words[p + 2],
     }
+}
+
+// The entry that these words are.
+pub fn entry_of(words: &[u64; ENTRY_WORDS]) -> Entry
+    ensures { result ≡ entry_of words.now }
+{
+    let [label, place, len, clock] = *words;
+    Entry {
+        label,
+        place,
+        len,
+        clock,
+    }
+}
+
+// The record that these words are.
+pub fn template_of(words: &[u64; RECORD_WORDS]) -> TemplateRecord
+    ensures { result ≡ template_of words.now }
+{
+    let [key, label, count, ..] = *words;
+    TemplateRecord { key, label, count }
+}
+
+// The words of so many entries, each by itself.
+pub fn entries_in(words: &[u64], entries: usize) -> &[[u64; ENTRY_WORDS]]
+    requires { entries_at + entry_words * entries ≤ length words.now }
+    ensures entries { entries_of result.now ≡ entries_from words.now entries_at entries }
+    ensures count { length result.now ≡ entries }
+{
+    let (parts, _) = words[HEADER_WORDS..].as_chunks::<ENTRY_WORDS>();
+    &parts[..entries]
+}
+
+// The words of so many records from word `from` on, each by itself.
+pub fn records_in(words: &[u64], from: usize, records: usize) -> &[[u64; RECORD_WORDS]]
+    requires { from + record_words * records ≤ length words.now }
+    ensures templates { templates_of result.now ≡ records_from words.now from records }
+    ensures index { index_of result.now ≡ index_from words.now from records }
+    ensures count { length result.now ≡ records }
+{
+    let (parts, _) = words[from..].as_chunks::<RECORD_WORDS>();
+    &parts[..records]
 }
 
 // The time to live that a flag and a word say.

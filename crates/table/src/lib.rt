@@ -7,10 +7,10 @@ mod layout;
 mod reads;
 
 pub use layout::{
-    CACHED, CHANCE_COUNT, DROPPED, ENTRY_COUNT, HELD_COUNT, INDEX, TOTAL, TTL_SET, entry_at,
-    limits_at, record_at, records_at,
+    CACHED, CHANCE_COUNT, DROPPED, ENTRY_COUNT, HELD_COUNT, INDEX, TOTAL, TTL_SET, entries_in,
+    entry_at, entry_of, limits_at, record_at, records_at, records_in, template_of,
 };
-pub use reads::{count_in, count_of, first_label, label_for, live_figures, record_of};
+pub use reads::{count_in, count_of, first_label, label_number, label_of, live_figures, record_of};
 
 // A body: its template's label, its place and length in the byte area, and the clock reading of its offer.
 #[derive(Clone, Copy)]

@@ -1,37 +1,29 @@
 // What is read off the records and entries of a table.
-ghost use Rattle.std.specs.Prelude.{◌≡◌, ◌+◌, ◌*◌, ◌≤◌, length};
-ghost use Rattle.config.specs.Limits.{header_words, record_words, entry_words};
-ghost use Rattle.table.specs.Layout.{entries_at};
-ghost use Rattle.table.specs.Table.{entries_from, records_from};
-ghost use Rattle.table.specs.Passes.{first_label};
-ghost use Rattle.table.specs.Reads.{record_of, count_in, label_of, label_or_none, count_of, is_live};
-ghost use Rattle.table.specs.Reads.{live_figures};
+ghost use Rattle.std.specs.Prelude.{◌≡◌};
+ghost use Rattle.table.specs.Parts.{entries_of, templates_of};
+ghost use Rattle.table.specs.Passes.{label_of_first};
+ghost use Rattle.table.specs.Reads.{record_of, count_in, label_of, label_or_none, count_of, is_live, live_figures};
 
-use super::layout::{entry_at, record_at};
+use super::layout::{entry_of, template_of};
 use super::{Entry, LABELS, LiveFigures, TemplateRecord};
-use config::{ENTRY_WORDS, HEADER_WORDS, RECORD_WORDS, is_expired};
+use config::{ENTRY_WORDS, RECORD_WORDS, is_expired};
 
 // The record with this key.
-pub fn record_of(words: &[u64], from: usize, records: usize, key: u64) -> Option<TemplateRecord>
-    requires { from + record_words * records ≤ length words.now }
-    ensures { result ≡ record_of key (records_from words.now from records) }
+pub fn record_of(records: &[[u64; RECORD_WORDS]], key: u64) -> Option<TemplateRecord>
+    ensures { result ≡ record_of key (templates_of records.now) }
 {
-    for i in 0..records {
-        let template = record_at(words, from + RECORD_WORDS * i);
-        if key == template.key {
-            return Some(template);
-        }
-    }
-    None
+    records
+        .iter()
+        .map(template_of)
+        .find(|template| key == template.key)
 }
 
 // The label of the record with this key.
 #[tactic(auto, using(crate::proofs::Lookups::label_told, crate::proofs::Lookups::no_label_told))]
-fn label_of(words: &[u64], from: usize, records: usize, key: u64) -> Option<u64>
-    requires { from + record_words * records ≤ length words.now }
-    ensures { result ≡ label_of key (records_from words.now from records) }
+pub fn label_of(records: &[[u64; RECORD_WORDS]], key: u64) -> Option<u64>
+    ensures { result ≡ label_of key (templates_of records.now) }
 {
-    record_of(words, from, records, key).map(|template| template.label)
+    record_of(records, key).map(|template| template.label)
 }
 
 // How many bodies the record that was found counts; 0 where there is none.
@@ -42,30 +34,25 @@ pub fn count_in(found: Option<TemplateRecord>) -> u64
 }
 
 // How many bodies the record with this key counts; 0 where none has the key.
-pub fn count_of(words: &[u64], from: usize, records: usize, key: u64) -> u64
-    requires { from + record_words * records ≤ length words.now }
-    ensures { result ≡ count_of key (records_from words.now from records) }
+#[tactic(auto, using(crate::proofs::Lookups::count_read))]
+pub fn count_of(records: &[[u64; RECORD_WORDS]], key: u64) -> u64
+    ensures { result ≡ count_of key (templates_of records.now) }
 {
-    count_in(record_of(words, from, records, key))
+    count_in(record_of(records, key))
 }
 
-// The label of the record with this key; where there is none, what is no label.
-pub fn label_for(words: &[u64], from: usize, records: usize, key: u64) -> u64
-    requires { from + record_words * records ≤ length words.now }
-    ensures { result ≡ label_or_none (label_of key (records_from words.now from records)) }
+// The first record's label.
+pub fn first_label(records: &[[u64; RECORD_WORDS]]) -> Option<u64>
+    ensures { result ≡ label_of_first (templates_of records.now) }
 {
-    label_of(words, from, records, key).unwrap_or(LABELS as u64)
+    records.first().map(|words| template_of(words).label)
 }
 
-// The first record's label; where there is none, what is no label.
-pub fn first_label(words: &[u64], from: usize, records: usize) -> u64
-    requires { from + record_words * records ≤ length words.now }
-    ensures { result ≡ first_label (records_from words.now from records) }
+// A label as a number: where there is none, what is no label.
+pub fn label_number(label: Option<u64>) -> u64
+    ensures { result ≡ label_or_none label }
 {
-    if records == 0 {
-        return LABELS as u64;
-    }
-    record_at(words, from).label
+    label.unwrap_or(LABELS as u64)
 }
 
 // Whether an entry has this label and is not expired.
@@ -77,19 +64,17 @@ fn is_live(entry: Entry, label: u64, ttl: Option<u64>, clock: u64) -> bool
 
 // How many of the entries have this label and are not expired, and their lengths together.
 pub fn live_figures(
-    words: &[u64],
-    entries: usize,
+    entries: &[[u64; ENTRY_WORDS]],
     label: u64,
     ttl: Option<u64>,
     clock: u64,
 ) -> LiveFigures
-    requires { header_words + entry_words * entries ≤ length words.now }
-    ensures { result ≡ live_figures ttl clock label (entries_from words.now entries_at entries) }
+    ensures { result ≡ live_figures ttl clock label (entries_of entries.now) }
 {
     let mut bodies: usize = 0;
     let mut bytes: u64 = 0;
-    for i in 0..entries {
-        let entry = entry_at(words, HEADER_WORDS + ENTRY_WORDS * i);
+    for words in entries {
+        let entry = entry_of(words);
         if is_live(entry, label, ttl, clock) {
             bodies += 1;
             bytes = bytes.wrapping_add(entry.len);

@@ -6,8 +6,7 @@ use Rattle.table.specs.declared.Damaged.{Damaged}
 use mathlib.Core.Path.{◌≡◌, refl, ap, sym, ◌∙◌}
 use mathlib.Core.Bool.{Bool, true, false, ◌&&◌, and_assoc}
 use mathlib.Core.List.{List}
-use Prim.Native.Nat.{ℕ, ◌+◌, ◌*◌, ◌-◌, ◌≤◌, ◌<◌}
-use native.Mathlib.Omega.{arith}
+use Prim.Native.Nat.{ℕ, ◌+◌, ◌≤◌, ◌<◌}
 use lib.Dec.{eqb, leb}
 use lib.ListN.{length}
 use borrow.Author.Tests.{leb-true, le-leb, lt-leb, eq-eqb}
@@ -15,7 +14,7 @@ use Rattle.config.specs.declared.PendingFlowsConfig.{PendingFlowsConfig}
 use Rattle.config.specs.declared.ConfigRefusal.{ConfigRefusal}
 use Rattle.config.specs.declared.ConfigRefusal.TheVariants.{NoTemplates, NoEntries, EntrySize, TotalBytes, Areas}
 use Rattle.config.specs.Limits.{header_words, max_bodies, refusal_number, answer_number, config_number}
-use Rattle.table.specs.Layout.{limits_of, ttl_set, held_count, entry_count, chance_count}
+use Rattle.table.specs.Layout.{limits_of, ttl_set, held_count, chance_count}
 use Rattle.table.specs.Table.{table_of, index}
 use Rattle.table.specs.WellFormed.{limits_legal, flags_legal, counts_legal, table_legal, well_formed}
 use Rattle.table_check.specs.Header.{HeaderLegal}
@@ -23,39 +22,6 @@ use Rattle.table_watch.specs.declared.LabelSeen.{LabelSeen}
 use Rattle.table_watch.specs.Watch.{judged}
 use Rattle.config.proofs.Limits.{LegalLimits, limits_say, cap_small}
 use Rattle.config.proofs.Tests.{and_left, and_right, and_fails, and_holds}
-
--- the flags and the counts
-module _ (w : List ℕ) where
-  pub ttl_flag_wrong : 1 < ttl_set w → false ≡ flags_legal w && counts_legal w
-  ttl_flag_wrong h = rw (lt-leb (ttl_set w) 1 h)
-
-  module _ (ttl_flag_lem : ttl_set w ≤ 1) where
-    pub chance_wrong : 1 < chance_count w → false ≡ flags_legal w && counts_legal w
-    chance_wrong h = rw (le-leb (ttl_set w) 1 ttl_flag_lem, lt-leb (chance_count w) 1 h)
-
-    module _ (chance_flag : chance_count w ≤ 1) (l : PendingFlowsConfig) (is : l ≡ limits_of w)
-        (some : 0 < l.max_pending_flows) where
-      templates_read : l.max_pending_flows ≡ (limits_of w).max_pending_flows
-      templates_read = ap (λ (c : PendingFlowsConfig). c.max_pending_flows) is
-
-      pub too_many_records : l.max_pending_flows - chance_count w < held_count w →
-          false ≡ flags_legal w && counts_legal w
-      too_many_records h =
-          rw (
-            le-leb (ttl_set w) 1 ttl_flag_lem,
-            le-leb (chance_count w) 1 chance_flag,
-            lt-leb (held_count w + chance_count w) (limits_of w).max_pending_flows (omega (arith, templates_read)),
-          )
-
-      pub entries_decide : held_count w ≤ l.max_pending_flows - chance_count w →
-          leb (entry_count w) (l.max_pending_flows * l.max_entries_per_template) ≡ flags_legal w && counts_legal w
-      entries_decide h =
-          rw (
-            le-leb (ttl_set w) 1 ttl_flag_lem,
-            le-leb (chance_count w) 1 chance_flag,
-            le-leb (held_count w + chance_count w) (limits_of w).max_pending_flows (omega (arith, templates_read)),
-          )
-          (ap (λ (c : PendingFlowsConfig). leb (entry_count w) (max_bodies c)) is)
 
 refused_number : (x : ConfigRefusal) → eqb (refusal_number x) 0 ≡ false
 refused_number NoTemplates = refl

@@ -1,5 +1,4 @@
 pub mod Header
-pub mod Room
 pub mod Counted
 pub mod Passes
 pub mod WordsPasses

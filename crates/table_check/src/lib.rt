@@ -11,10 +11,10 @@ ghost use Rattle.table_check.specs.Header.{HeaderLegal};
 ghost use Rattle.table_check.specs.Room.{RoomForAllowances};
 ghost use Rattle.table_check.specs.Examined.{table_examined, examined};
 
-use config::{HEADER_WORDS, PendingFlowsConfig, RECORD_WORDS, validate_config};
+use config::{HEADER_WORDS, PendingFlowsConfig, validate_config};
 use table::{
-    CHANCE_COUNT, Damaged, ENTRY_COUNT, FEW_LABELS, HELD_COUNT, LABELS, TOTAL, TTL_SET,
-    first_label, limits_at, records_at,
+    CHANCE_COUNT, Damaged, ENTRY_COUNT, FEW_LABELS, HELD_COUNT, LABELS, TOTAL, TTL_SET, entries_in,
+    first_label, label_number, limits_at, records_at, records_in,
 };
 use table_entry_test::entries_pass;
 use table_passes::{index_rises, labels_below, records_pass};
@@ -31,27 +31,27 @@ fn test_table(
     requires { HeaderLegal limits words.now × RoomForAllowances words.now allow.old }
     ensures { result ≡ table_examined words.now sought }
 {
-    let from = records_at(limits);
-    let held = words[HELD_COUNT] as usize;
+    let held_count = words[HELD_COUNT] as usize;
     let chance = words[CHANCE_COUNT] as usize;
-    let records = held + chance;
-    let entries = words[ENTRY_COUNT];
+    let records = records_in(words, records_at(limits), held_count + chance);
     let cap = limits.max_entries_per_template as u64;
-    if !records_pass(words, allow, from, records, cap, entries) {
+    if !records_pass(records, allow, cap, words[ENTRY_COUNT]) {
         return Err(Damaged);
     }
-    if !index_rises(words, from, records) {
+    if !index_rises(records) {
         return Err(Damaged);
     }
+    let (held, handed) = records.split_at(held_count);
+    // Where none is handed out, a number that no entry has as label: the loop over the entries then compares it in one
+    // instruction.
+    let out = label_number(first_label(handed));
+    let watch = watch_for(held, limits.ttl, out, sought);
+    let entries = entries_in(words, words[ENTRY_COUNT] as usize);
     let max_size = limits.max_entry_size_bytes as u64;
     let max_total = limits.max_total_bytes as u64;
-    let out = first_label(words, from + RECORD_WORDS * held, chance);
-    let ttl = limits.ttl;
-    let watch = watch_for(words, from, held, ttl, out, sought);
     entries_pass(
-        words,
+        entries,
         allow,
-        entries as usize,
         max_size,
         max_total,
         out,
@@ -69,9 +69,10 @@ fn examine_table(
     requires { HeaderLegal limits words.now }
     ensures { result ≡ table_examined words.now sought }
 {
-    let records = (words[HELD_COUNT] as usize) + (words[CHANCE_COUNT] as usize);
-    if records <= FEW_LABELS {
-        if labels_below(words, records_at(limits), records, FEW_LABELS as u64) {
+    let count = (words[HELD_COUNT] as usize) + (words[CHANCE_COUNT] as usize);
+    if count <= FEW_LABELS {
+        let records = records_in(words, records_at(limits), count);
+        if labels_below(records, FEW_LABELS as u64) {
             let mut few = [0u32; FEW_LABELS];
             return test_table(words, &mut few, limits, sought);
         }

@@ -4,17 +4,14 @@
 ghost use Rattle.std.specs.Prelude.{◌≡◌, ◌+◌, ◌*◌, ◌≤◌, length, get_or};
 ghost use Rattle.config.specs.Limits.{record_words};
 ghost use Rattle.table_records.specs.Close.{nowhere, Closes};
-ghost use Rattle.table_records.specs.Passes.{ClosesRecords, ClosesIndex};
+ghost use Rattle.table_records.specs.Passes.{ClosesRecords};
 
 use config::RECORD_WORDS;
-use table::{INDEX, LABELS, TemplateRecord, record_at};
-use table_records::{put_record, sum_of};
-
-// What stands for the new position of a record that goes.
-// No Option: it would take twice the room in the array, and the promises have positions as such numbers.
-const NOWHERE: u32 = 1024;
+use table::{LABELS, TemplateRecord, record_at};
+use table_records::{NOWHERE, close_index, put_record, sum_of};
 
 // Moves the records that remain together, with their counts anew, and notes the new position of each.
+// The words and a place, no parts: `as_chunks_mut` says nothing of what the words end as.
 fn close_records(
     words: &mut [u64],
     from: usize,
@@ -40,42 +37,32 @@ fn close_records(
             positions[i] = remain as u32;
             remain += 1;
         } else {
-            positions[i] = NOWHERE;
+            positions[i] = NOWHERE as u32;
         }
     }
     remain
 }
 
 // The new position of a record.
-#[tactic(auto, using(table_records::proofs::PastEnd::past_end))]
-fn position_of(positions: &[u32], position: u64) -> u32
+fn position_of(positions: &[u32], position: u64) -> u64
     ensures { result ≡ get_or positions.now position nowhere }
 {
-    positions.get(position as usize).copied().unwrap_or(NOWHERE)
-}
-
-// Moves the index words of the records that remain together, by the new positions.
-fn close_index(words: &mut [u64], from: usize, records: usize, positions: &[u32])
-    requires { from + record_words * records ≤ length words.old }
-    ensures { ClosesIndex from records positions.now words.old words.new }
-{
-    let mut remain: usize = 0;
-    for k in 0..records {
-        let position = position_of(positions, words[from + RECORD_WORDS * k + INDEX]);
-        if position < NOWHERE {
-            words[from + RECORD_WORDS * remain + INDEX] = position as u64;
-            remain += 1;
-        }
-    }
+    positions
+        .get(position as usize)
+        .map_or(NOWHERE, |moved| *moved as u64)
 }
 
 // Closes the records from word `from` on and returns how many remain.
+// The words and a place, no parts: `as_chunks_mut` says nothing of what the words end as.
 pub fn close(words: &mut [u64], from: usize, records: usize, kept: &[u32; LABELS]) -> usize
     requires { (from + record_words * records ≤ length words.old) × (records ≤ 1024) }
     ensures { Closes from records kept.now words.old words.new result }
 {
     let mut positions = [0; LABELS];
     let remain = close_records(words, from, records, kept, &mut positions);
-    close_index(words, from, records, &positions[..records]);
+    let noted = &positions[..records];
+    close_index(words, from, records, |position| {
+        position_of(noted, position)
+    });
     remain
 }

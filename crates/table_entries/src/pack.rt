@@ -2,27 +2,28 @@
 ghost use Rattle.std.specs.Prelude.{◌≡◌, ◌+◌, ◌*◌, ◌≤◌, true, length};
 ghost use Rattle.config.specs.Limits.{entry_words};
 ghost use Rattle.table.specs.Layout.{entries_at};
+ghost use Rattle.table.specs.Parts.{entries_of};
 ghost use Rattle.table.specs.Table.{entries_from};
 ghost use Rattle.table.specs.WellFormed.{places_legal};
 ghost use Rattle.table_entries.specs.Pack.{last_end, MovesRun, ReachesTo, Packs};
 
 use areas::move_bytes_down;
 use config::{ENTRY_WORDS, HEADER_WORDS};
-use table::entry_at;
+use table::{entry_at, entry_of};
 
 // The word of an entry that is its body's place.
 const PLACE: usize = 1;
 
 // Where the last entry's body ends; 0 where there is none.
-pub fn last_end(words: &[u64], entries: usize) -> u64
-    requires { (entries_at + entry_words * entries ≤ length words.now) × (last_end (entries_from words.now
-        entries_at entries) ≤ 18446744073709551615) }
-    ensures { result ≡ last_end (entries_from words.now entries_at entries) }
+#[tactic(auto, using(crate::proofs::Ends::last_told))]
+pub fn last_end(entries: &[[u64; ENTRY_WORDS]]) -> u64
+    requires { last_end (entries_of entries.now) ≤ 18446744073709551615 }
+    ensures { result ≡ last_end (entries_of entries.now) }
 {
-    if entries == 0 {
+    let Some(words) = entries.last() else {
         return 0;
-    }
-    let last = entry_at(words, HEADER_WORDS + ENTRY_WORDS * (entries - 1));
+    };
+    let last = entry_of(words);
     last.place + last.len
 }
 
@@ -44,6 +45,7 @@ pub fn move_run(bytes: &mut [u8], run: Run) -> usize
 }
 
 // The run that a body at this place goes on with. Where it lies apart, the run is moved and the next one begins.
+#[tactic(auto, using(crate::proofs::PackPass::run_moved))]
 pub fn run_up_to(bytes: &mut [u8], run: Run, place: usize) -> Run
     requires to_le_from { (run.to ≤ run.from) × (run.from + run.len ≤ place) }
     requires place_in_bounds { place ≤ length bytes.old }
@@ -61,6 +63,7 @@ pub fn run_up_to(bytes: &mut [u8], run: Run, place: usize) -> Run
 }
 
 // Moves the bodies together towards the front, in table order; answers where the last one ends.
+// The words and how many entries, no parts: `as_chunks_mut` says nothing of what the words end as.
 pub fn pack_bodies(words: &mut [u64], bytes: &mut [u8], entries: usize) -> usize
     requires { (entries_at + entry_words * entries ≤ length words.old) × (places_legal 0 (length bytes.old)
         (entries_from words.old entries_at entries) ≡ true) }

@@ -1,14 +1,12 @@
 // Sums over entries.
-ghost use Rattle.std.specs.Prelude.{◌≡◌, ◌+◌, ◌*◌, ◌≤◌, min, length};
-ghost use Rattle.config.specs.Limits.{entry_words};
-ghost use Rattle.table.specs.Layout.{entries_at};
-ghost use Rattle.table.specs.Table.{entries_from};
+ghost use Rattle.std.specs.Prelude.{◌≡◌, ◌+◌, min, length};
+ghost use Rattle.table.specs.Parts.{entries_of};
 ghost use Rattle.table_entries.specs.Sums.{sum_most, more_at, share, summed};
 
 use super::StayTest;
 use super::stay::stays;
-use config::{ENTRY_WORDS, HEADER_WORDS};
-use table::{Entry, LABELS, entry_at};
+use config::ENTRY_WORDS;
+use table::{Entry, LABELS, entry_of};
 
 // A sum and n more, which stop at the largest 32-bit number.
 fn capped_sum(sum: u32, n: u64) -> u32
@@ -39,18 +37,16 @@ fn share_of(entry: Entry, bytes: bool) -> u64
 // Adds to each label's sum the lengths, or the number, of its entries that stay by themselves.
 #[tactic(auto, using(crate::proofs::SumsPasses::passes))]
 pub fn sums_by_label(
-    words: &[u64],
-    entries: usize,
+    entries: &[[u64; ENTRY_WORDS]],
     test: StayTest,
     bytes: bool,
     sums: &mut [u32; LABELS],
 )
-    requires { (entries_at + entry_words * entries ≤ length words.now) × (length sums.old ≡ 1024) }
-    ensures { sums.new ≡ summed test bytes sums.old (entries_from words.now entries_at
-        entries) }
+    requires { length sums.old ≡ 1024 }
+    ensures { sums.new ≡ summed test bytes sums.old (entries_of entries.now) }
 {
-    for i in 0..entries {
-        let entry = entry_at(words, HEADER_WORDS + ENTRY_WORDS * i);
+    for words in entries {
+        let entry = entry_of(words);
         if stays(test, entry) {
             add_at(sums, entry.label, share_of(entry, bytes));
         }

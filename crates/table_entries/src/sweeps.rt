@@ -31,6 +31,8 @@ fn spend(skip: &mut [u32; LABELS], label: u64) -> bool
 }
 
 // Stores an entry's four words from p on.
+// The words and a place, no parts: `as_chunks_mut` says nothing of what the words end as.
+#[tactic(auto, unfolding(crate::specs::Sweep::put_entry))]
 pub fn put_entry(words: &mut [u64], p: usize, entry: Entry)
     requires { p + entry_words ≤ length words.old }
     ensures { words.new ≡ put_entry words.old p entry }
@@ -42,6 +44,8 @@ pub fn put_entry(words: &mut [u64], p: usize, entry: Entry)
 }
 
 // Moves an entry's four words.
+// Word by word: through an array of four words the array stays, and a sweep takes a quarter longer.
+// The words and places, no parts: `as_chunks_mut` says nothing of what the words end as.
 pub fn move_entry(words: &mut [u64], from: usize, to: usize)
     requires { (from + entry_words ≤ length words.old) × (to + entry_words ≤ length words.old) }
     ensures { words.new ≡ put_entry words.old to (entry_at words.old from) }
@@ -50,6 +54,7 @@ pub fn move_entry(words: &mut [u64], from: usize, to: usize)
 }
 
 // Keeps of the entries those that stay and are not skipped, in order.
+// The words and how many entries, no parts: `as_chunks_mut` says nothing of what the words end as.
 pub fn sweep(words: &mut [u64], entries: usize, test: StayTest, skip: &mut [u32; LABELS]) -> Kept
     requires { (entries_at + entry_words * entries ≤ length words.old) × (length skip.old ≡ 1024) }
     ensures { KeepsOnly (swept test skip.old (entries_from words.old entries_at entries)) entries

@@ -1,20 +1,11 @@
 -- The pass over the entries, turn by turn. Assumes nothing.
-use mathlib.Core.Path.{◌≡◌, refl, sym, ◌∙◌}
-use mathlib.Core.Bool.{Bool, true, false, ◌&&◌}
-use mathlib.Core.List.{List}
-use Prim.Native.Nat.{ℕ, ◌+◌, ◌*◌, ◌-◌, ◌^◌, ◌≤◌, ◌<◌}
-use native.Mathlib.Omega.{arith}
-use lib.Dec.{eqb, leb, ltb}
-use lib.ListN.{length, get_or, set, length-set, get_or-eq_default}
-use borrow.Author.Tests.{leb-true, lt-ltb, le-leb, lt-leb, eq-eqb, ne_eqb}
-use Rattle.config.specs.Limits.{entry_words}
+use Rattle.std.proofs.Common.{◌≡◌, ℕ, ◌+◌, ◌-◌, ◌^◌, ◌<◌, ◌≤◌, Bool, true, false, ◌&&◌, eqb, leb, ltb, List, [], ◌∷◌, length, drop, get_or, set, refl, sym, ◌∙◌, arith, lt-ltb, le-leb, leb-true, eq-eqb, ne_eqb, length-set}
+use lib.ListN.{get_or-eq_default}
+use borrow.Author.Tests.{lt-leb}
 use Rattle.config.proofs.Tests.{and_left, and_right}
 use Rattle.table.specs.declared.Entry.{Entry}
-use Rattle.table.specs.Layout.{entries_at}
-use Rattle.table.specs.Table.{entry_at, entries_from}
 use Rattle.table.specs.Passes.{held_len, less_at}
 use Rattle.table_entry_test.specs.EntriesPass.{entry_fits, one_less, entries_pass}
-use Rattle.table.proofs.Words.{entries_first, entries_none}
 use Rattle.table.proofs.Labels.{adds_within}
 
 pub record Fits (size end : ℕ) (e : Entry) : Type 0 where
@@ -38,107 +29,78 @@ module _ (allowed : ℕ) where
   unfolding one_less
   one_less_of h = simp (ne_eqb allowed 0 h)
 
--- `left` entries are left, from word p on; those passed end at `end`, and their held lengths sum to `held`
-pub record EntriesPassed (w : List ℕ) (entries size most out total : ℕ) (allow₀ allow : List ℕ)
-    (end held left p : ℕ) :
-    Type 0
+-- the first i entries are passed: they end at `end`, and their held lengths sum to `held`
+pub record EntriesPassed (es : List Entry) (size most out total : ℕ) (allow₀ allow : List ℕ) (end held i : ℕ) : Type 0
   where
-    pub reached : p + entry_words * left ≡ entries_at + entry_words * entries
     pub same_long : length allow ≡ length allow₀
     pub no_more : held ≤ end
     pub within : end ≤ 67108864 + size
-    pub test : entries_pass size most out total end allow held (entries_from w p left)
-        ≡ entries_pass size most out total 0 allow₀ 0 (entries_from w entries_at entries)
+    pub test : entries_pass size most out total end allow held (drop i es)
+        ≡ entries_pass size most out total 0 allow₀ 0 es
 
-module _ (w : List ℕ) (entries size most out total : ℕ) where
-  pub no_entry_passed : (allow : List ℕ) →
-      EntriesPassed w entries size most out total allow allow 0 0 entries entries_at
+module _ (es : List Entry) (size most out total : ℕ) where
+  pub no_entry_passed : (allow : List ℕ) → EntriesPassed es size most out total allow allow 0 0 0
   no_entry_passed allow = record {
-    reached = refl;
     same_long = refl;
     no_more = omega arith;
     within = omega arith;
     test = refl;
   }
 
-  module _ {allow₀ allow : List ℕ} {end held left p : ℕ}
-      (inv : EntriesPassed w entries size most out total allow₀ allow end held left p) where
-    module _ (none : left ≤ 0) where
-      last_test : leb end most && eqb held total
-          ≡ entries_pass size most out total 0 allow₀ 0 (entries_from w entries_at entries)
-      unfolding entries_pass
-      last_test = rw (entries_none w p left none) at inv.test
+module _ {es : List Entry} {size most out total : ℕ} {allow₀ allow : List ℕ} {end held i : ℕ}
+    (inv : EntriesPassed es size most out total allow₀ allow end held i) where
+  module _ (none : drop i es ≡ []) where
+    last_test : leb end most && eqb held total ≡ entries_pass size most out total 0 allow₀ 0 es
+    unfolding entries_pass
+    last_test = rw none at inv.test
 
-      pub ends_past : most < end → false ≡ entries_pass size most out total 0 allow₀ 0
-          (entries_from w entries_at entries)
-      ends_past h = rw (lt-leb end most h) at last_test
+    pub ends_past : most < end → false ≡ entries_pass size most out total 0 allow₀ 0 es
+    ends_past h = rw (lt-leb end most h) at last_test
 
-      module _ (inside : end ≤ most) where
-        pub total_wrong : (held ≡ total → ⊥) →
-            false ≡ entries_pass size most out total 0 allow₀ 0 (entries_from w entries_at entries)
-        total_wrong h = rw (le-leb end most inside, ne_eqb held total h) at last_test
+    module _ (inside : end ≤ most) where
+      pub total_wrong : (held ≡ total → ⊥) → false ≡ entries_pass size most out total 0 allow₀ 0 es
+      total_wrong h = rw (le-leb end most inside, ne_eqb held total h) at last_test
 
-        pub total_right : held ≡ total →
-            true ≡ entries_pass size most out total 0 allow₀ 0 (entries_from w entries_at entries)
-        total_right h = rw (le-leb end most inside, eq-eqb held total h) at last_test
+      pub total_right : held ≡ total → true ≡ entries_pass size most out total 0 allow₀ 0 es
+      total_right h = rw (le-leb end most inside, eq-eqb held total h) at last_test
 
-    module _ (e : Entry) (more : 0 < left) (is : e ≡ entry_at w p) where
-      next_test : ltb 0 (get_or allow e.label 0) && (entry_fits size end e && entries_pass size most out total
-          (e.place + e.len) (less_at allow e.label) (held + held_len out e)
-          (entries_from w (p + entry_words) (left - 1)))
-          ≡ entries_pass size most out total 0 allow₀ 0 (entries_from w entries_at entries)
-      unfolding entries_pass
-      next_test = rw (entries_first w p left more e is) at inv.test
+  module _ {e : Entry} (some : drop i es ≡ e ∷ drop (i + 1) es) where
+    next_test : ltb 0 (get_or allow e.label 0) && (entry_fits size end e && entries_pass size most out total
+        (e.place + e.len) (less_at allow e.label) (held + held_len out e) (drop (i + 1) es))
+        ≡ entries_pass size most out total 0 allow₀ 0 es
+    unfolding entries_pass
+    next_test = rw some at inv.test
 
-      pub none_left : get_or allow e.label 0 ≡ 0 →
-          false ≡ entries_pass size most out total 0 allow₀ 0 (entries_from w entries_at entries)
-      none_left h = rw h at next_test
+    pub none_left : get_or allow e.label 0 ≡ 0 → false ≡ entries_pass size most out total 0 allow₀ 0 es
+    none_left h = rw h at next_test
 
-      -- what is no label here is allowed none
-      pub large_label : length allow ≤ e.label →
-          false ≡ entries_pass size most out total 0 allow₀ 0 (entries_from w entries_at entries)
-      large_label h = none_left (get_or-eq_default allow 0 h)
+    -- what is no label here is allowed none
+    pub large_label : length allow ≤ e.label → false ≡ entries_pass size most out total 0 allow₀ 0 es
+    large_label h = none_left (get_or-eq_default allow 0 h)
 
-      module _ (some_left : get_or allow e.label 0 ≡ 0 → ⊥) (t : Bool) (told : t ≡ entry_fits size end e) where
-        pub misplaced : t ≡ false →
-            false ≡ entries_pass size most out total 0 allow₀ 0 (entries_from w entries_at entries)
-        misplaced h =
-            rw (
-              lt-ltb 0 (get_or allow e.label 0) (omega arith),
-              ← told,
-              h,
-            )
-            at next_test
+    module _ (some_left : get_or allow e.label 0 ≡ 0 → ⊥) (t : Bool) (told : t ≡ entry_fits size end e) where
+      pub misplaced : t ≡ false → false ≡ entries_pass size most out total 0 allow₀ 0 es
+      misplaced h = rw (lt-ltb 0 (get_or allow e.label 0) (omega arith), ← told, h) at next_test
 
-        module _ (holds : t ≡ true) where
-          fits_there : Fits size end e
-          fits_there = fits_says size end e (sym told ∙ holds)
+      module _ (holds : t ≡ true) where
+        fits_there : Fits size end e
+        fits_there = fits_says size end e (sym told ∙ holds)
 
-          pub end_fits : size ≤ 67108864 → e.place + e.len < 2 ^ 64
-          end_fits m = let f = fits_there in omega arith
+        pub end_fits : size ≤ 67108864 → e.place + e.len < 2 ^ 64
+        end_fits m = let f = fits_there in omega arith
 
-          pub held_fits : size ≤ 67108864 → {add : ℕ} → add ≡ held_len out e → held + add < 2 ^ 64
-          held_fits m h = let f = fits_there in omega (arith, adds_within out e)
+        pub held_fits : size ≤ 67108864 → {add : ℕ} → add ≡ held_len out e → held + add < 2 ^ 64
+        held_fits m h = let f = fits_there in omega (arith, adds_within out e)
 
-          later_test : entries_pass size most out total (e.place + e.len) (less_at allow e.label)
-              (held + held_len out e) (entries_from w (p + entry_words) (left - 1))
-              ≡ entries_pass size most out total 0 allow₀ 0 (entries_from w entries_at entries)
-          later_test =
-              rw (
-                lt-ltb 0 (get_or allow e.label 0) (omega arith),
-                ← told,
-                holds,
-              )
-              at next_test
+        later_test : entries_pass size most out total (e.place + e.len) (less_at allow e.label)
+            (held + held_len out e) (drop (i + 1) es) ≡ entries_pass size most out total 0 allow₀ 0 es
+        later_test = rw (lt-ltb 0 (get_or allow e.label 0) (omega arith), ← told, holds) at next_test
 
-          pub entry_passed : {add less left' p' : ℕ} → add ≡ held_len out e →
-              less ≡ one_less (get_or allow e.label 0) → left' ≡ left - 1 → p' ≡ p + entry_words →
-              EntriesPassed w entries size most out total allow₀ (set allow e.label less) (e.place + e.len)
-              (held + add) left' p'
-          entry_passed added taken count place = let f = fits_there in record {
-            reached = omega arith;
-            same_long = length-set allow e.label _ ∙ inv.same_long;
-            no_more = omega (arith, adds_within out e);
-            within = omega arith;
-            test = rw (count, place, added, taken, one_less_of (get_or allow e.label 0) some_left) later_test;
-          }
+        pub entry_passed : {add less : ℕ} → add ≡ held_len out e → less ≡ one_less (get_or allow e.label 0) →
+            EntriesPassed es size most out total allow₀ (set allow e.label less) (e.place + e.len) (held + add) (i + 1)
+        entry_passed added taken = let f = fits_there in record {
+          same_long = length-set allow e.label _ ∙ inv.same_long;
+          no_more = omega (arith, adds_within out e);
+          within = omega arith;
+          test = rw (added, taken, one_less_of (get_or allow e.label 0) some_left) later_test;
+        }

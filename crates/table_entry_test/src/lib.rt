@@ -2,16 +2,14 @@
 // query or an offer is about.
 #![tactic(auto)]
 
-ghost use Rattle.std.specs.Prelude.{◌≡◌, ◌+◌, ◌*◌, ◌≤◌, length};
-ghost use Rattle.config.specs.Limits.{entry_words};
-ghost use Rattle.table.specs.Layout.{entries_at};
-ghost use Rattle.table.specs.Table.{entries_from};
+ghost use Rattle.std.specs.Prelude.{◌≡◌, ◌^◌, ◌<◌, ◌≤◌, length};
+ghost use Rattle.table.specs.Parts.{entries_of};
 ghost use Rattle.table.specs.Passes.{held_len};
 ghost use Rattle.table_watch.specs.Watch.{seen_by, judged};
 ghost use Rattle.table_entry_test.specs.EntriesPass.{entry_fits, one_less, entries_pass};
 
-use config::{ENTRY_WORDS, HEADER_WORDS, MAX_BYTES};
-use table::{Damaged, Entry, entry_at};
+use config::{ENTRY_WORDS, MAX_BYTES};
+use table::{Damaged, Entry, entry_of};
 use table_watch::{LabelSeen, Passed, Watch, label_seen, pass_entry};
 
 // Whether a body is within the entry size, and begins at `end` or above, within the longest area. Bodies follow one
@@ -24,6 +22,7 @@ fn entry_fits(entry: Entry, max_size: u64, end: u64) -> bool
 }
 
 // What an entry adds to the total: nothing where it is handed out.
+#[tactic(auto, unfolding(table::specs::Passes::held_len))]
 fn held_len(entry: Entry, out: u64) -> u64
     ensures { result ≡ held_len out entry }
 {
@@ -42,27 +41,23 @@ fn one_less(allowed: u32) -> u32
 // The pass over the entries: each takes one of its label's allowance, bodies follow one another, and the last one ends
 // within the total. What is watched is seen on the way.
 pub fn entries_pass(
-    words: &[u64],
+    entries: &[[u64; ENTRY_WORDS]],
     allow: &mut [u32],
-    entries: usize,
     max_size: u64,
     max_total: u64,
     out: u64,
     total: u64,
     watch: Watch,
 ) -> Result<LabelSeen, Damaged>
-    requires entries_in_bounds { entries_at + entry_words * entries ≤ length words.now }
     requires max_size_bound { max_size ≤ 67108864 }
     ensures { result ≡ judged (entries_pass max_size max_total out total 0 allow.old 0
-        (entries_from words.now entries_at entries))
-        (seen_by watch (entries_from words.now entries_at entries)) }
+        (entries_of entries.now)) (seen_by watch (entries_of entries.now)) }
 {
     let mut end: u64 = 0;
     let mut held: u64 = 0;
     let mut passed = Passed { live: 0, left: 0 };
-    for i in 0..entries {
-        let p = HEADER_WORDS + ENTRY_WORDS * i;
-        let entry = entry_at(words, p);
+    for (i, words) in entries.iter().enumerate() {
+        let entry = entry_of(words);
         if (allow.len() as u64) <= entry.label {
             return Err(Damaged);
         }
@@ -77,7 +72,7 @@ pub fn entries_pass(
         }
         end = entry.place + entry.len;
         held += held_len(entry, out);
-        passed = pass_entry(words, p, entry, entries - i, passed, watch);
+        passed = pass_entry(words, entry, entries.len() - i, passed, watch);
     }
     if max_total < end {
         return Err(Damaged);
@@ -85,5 +80,5 @@ pub fn entries_pass(
     if held != total {
         return Err(Damaged);
     }
-    Ok(label_seen(words, entries, passed, watch.nth))
+    Ok(label_seen(entries, passed, watch.nth))
 }

@@ -1,68 +1,45 @@
 -- The pass along the index, turn by turn. Assumes nothing.
-use mathlib.Core.Path.{◌≡◌, refl}
-use mathlib.Core.Bool.{true, false, ◌&&◌}
-use mathlib.Core.List.{List}
-use Prim.Native.Nat.{ℕ, ◌+◌, ◌*◌, ◌-◌, ◌≤◌, ◌<◌}
-use native.Mathlib.Omega.{arith}
-use lib.Dec.{leb, ltb}
-use lib.ListN.{length}
-use borrow.Author.Tests.{lt-ltb, le-ltb, le-leb, lt-leb}
-use Rattle.config.specs.Limits.{record_words}
+use Rattle.std.proofs.Common.{◌≡◌, ℕ, ◌+◌, ◌<◌, ◌≤◌, true, false, ◌&&◌, leb, ltb, List, [], ◌∷◌, length, drop, get_or, sym, ap, arith, lt-ltb, le-leb}
+use borrow.Author.Tests.{le-ltb, lt-leb}
+use Rattle.std.proofs.Math.ListN.{get_or-map}
+use Rattle.table.specs.declared.TemplateRecord.{TemplateRecord}
 use Rattle.table.specs.Layout.{word}
-use Rattle.table.specs.Table.{records_from, index_from}
+use Rattle.table.specs.Parts.{template_of, templates_of}
 use Rattle.table.specs.WellFormed.{key_at, index_rises}
 use Rattle.table_passes.specs.Passes.{KeysSmall}
-use Rattle.table.proofs.Words.{index_first, index_none, length_records, key_word}
 
--- `left` index words are left, from word p on; the next key is `low` or more
-pub record IndexPassed (w : List ℕ) (from records low left p : ℕ) : Type 0 where
-  pub reached : p + record_words * left ≡ from + record_words * records
+-- a record's key is its first word
+pub key_read : (parts : List (List ℕ)) (i : ℕ) → word (get_or parts i []) 0 ≡ key_at (templates_of parts) i
+key_read parts i = sym (ap (λ (r : TemplateRecord). r.key) (get_or-map template_of parts i []))
+
+-- the first i index words passed; the next key is `low` or more
+pub record IndexPassed (rs : List TemplateRecord) (is : List ℕ) (low i : ℕ) : Type 0 where
   pub low_small : low ≤ 65536
-  pub test : index_rises (records_from w from records) low (index_from w p left)
-      ≡ index_rises (records_from w from records) 0 (index_from w from records)
+  pub test : index_rises rs low (drop i is) ≡ index_rises rs 0 is
 
-pub no_key_passed : (w : List ℕ) (from records : ℕ) → IndexPassed w from records 0 records from
-no_key_passed w from records = record { reached = refl; low_small = omega arith; test = refl }
-
-module _ {w : List ℕ} {from records low left p : ℕ} (inv : IndexPassed w from records low left p) where
-  pub index_passed : left ≤ 0 → true ≡ index_rises (records_from w from records) 0 (index_from w from records)
+module _ {rs : List TemplateRecord} {is : List ℕ} {low i : ℕ} (inv : IndexPassed rs is low i) where
+  pub index_passed : drop i is ≡ [] → true ≡ index_rises rs 0 is
   unfolding index_rises
-  index_passed e = rw (index_none w p left e) at inv.test
+  index_passed none = rw none at inv.test
 
-  module _ (more : 0 < left) where
-    abbrev position : ℕ
-    position = word w (p + 3)
-
-    next_test : ltb position (length (records_from w from records)) && (leb low
-        (key_at (records_from w from records) position) && index_rises (records_from w from records)
-        (key_at (records_from w from records) position + 1) (index_from w (p + record_words) (left - 1)))
-        ≡ index_rises (records_from w from records) 0 (index_from w from records)
+  module _ (position : ℕ) (some : drop i is ≡ position ∷ drop (i + 1) is) where
+    next_test : ltb position (length rs) && (leb low (key_at rs position) && index_rises rs (key_at rs position + 1)
+        (drop (i + 1) is)) ≡ index_rises rs 0 is
     unfolding index_rises
-    next_test = rw (index_first w p left more) at inv.test
+    next_test = rw some at inv.test
 
-    pub no_such_record : records ≤ position →
-        false ≡ index_rises (records_from w from records) 0 (index_from w from records)
-    no_such_record h =
-        rw (length_records w from records, le-ltb position records h) at next_test
+    pub no_such_record : length rs ≤ position → false ≡ index_rises rs 0 is
+    no_such_record h = rw (le-ltb position (length rs) h) at next_test
 
-    module _ (known : position < records) where
-      abbrev key : ℕ
-      key = word w (from + record_words * position)
+    module _ (known : position < length rs) (key : ℕ) (read : key ≡ key_at rs position) where
+      key_test : leb low key && index_rises rs (key + 1) (drop (i + 1) is) ≡ index_rises rs 0 is
+      key_test = rw (lt-ltb position (length rs) known, ← read) at next_test
 
-      key_test : leb low key && index_rises (records_from w from records) (key + 1)
-          (index_from w (p + record_words) (left - 1))
-          ≡ index_rises (records_from w from records) 0 (index_from w from records)
-      key_test =
-          rw (length_records w from records, lt-ltb position records known, key_word w from records position known)
-          at next_test
-
-      pub key_falls : key < low → false ≡ index_rises (records_from w from records) 0 (index_from w from records)
+      pub key_falls : key < low → false ≡ index_rises rs 0 is
       key_falls h = rw (lt-leb low key h) at key_test
 
-      pub key_passed : KeysSmall w from records → low ≤ key → {left' p' : ℕ} → left' ≡ left - 1 →
-          p' ≡ p + record_words → IndexPassed w from records (key + 1) left' p'
-      key_passed small h count place = record {
-        reached = omega arith;
+      pub key_passed : KeysSmall rs → low ≤ key → IndexPassed rs is (key + 1) (i + 1)
+      key_passed small h = record {
         low_small = omega (arith, small position known);
-        test = rw (count, place) (rw (le-leb low key h) at key_test);
+        test = rw (le-leb low key h) at key_test;
       }

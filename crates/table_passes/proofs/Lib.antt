@@ -1,3 +1,2 @@
-pub mod LabelsPass
 pub mod RecordsPass
 pub mod IndexPass

@@ -1,15 +1,14 @@
 -- What the passes over the records and the index compute, each as its loop goes. They stand here because the contracts
 -- of the passes cite them. A reader need not believe them: crate `table_check`, proofs/Passes.antt, shows that together
 -- with the pass over the entries they are `table_legal`.
-use Rattle.std.specs.Prelude.{◌≡◌, List, [], ◌∷◌, Bool, true, ◌&&◌, ℕ, ◌+◌, ◌*◌, ◌<◌, eqb, leb, ltb, length, get_or, set}
-use Rattle.config.specs.Limits.{record_words}
+use Rattle.std.specs.Prelude.{◌≡◌, List, [], ◌∷◌, Bool, true, ◌&&◌, ℕ, ◌+◌, ◌<◌, eqb, leb, ltb, length, get_or, set}
+use Rattle.std.specs.List.{list_all}
 use Rattle.table.specs.declared.TemplateRecord.{TemplateRecord}
-use Rattle.table.specs.Layout.{word}
-use Rattle.table.specs.WellFormed.{every}
+use Rattle.table.specs.WellFormed.{key_at}
 
 -- the labels of all records are below this
 abbrev pub labels_below : ℕ → List TemplateRecord → Bool
-labels_below most rs = every (λ r. ltb r.label most) rs
+labels_below most rs = list_all (λ r. ltb r.label most) rs
 
 -- a record by itself, where its label was allowed `was` entries before
 unfoldable pub record_fresh : ℕ → ℕ → TemplateRecord → Bool
@@ -32,6 +31,6 @@ pub record Allowed (cap many : ℕ) (rs : List TemplateRecord) (allow allow' : L
   pub test : r ≡ records_pass cap many allow 0 rs
   pub filled : r ≡ true → allow' ≡ allowed_by allow rs
 
--- k records from word p on have keys that are ids
-abbrev pub KeysSmall : List ℕ → ℕ → ℕ → Type 0
-KeysSmall w p k = (i : ℕ) → i < k → word w (p + record_words * i) < 65536
+-- the keys of records are ids
+abbrev pub KeysSmall : List TemplateRecord → Type 0
+KeysSmall rs = (i : ℕ) → i < length rs → key_at rs i < 65536

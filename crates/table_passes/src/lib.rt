@@ -1,30 +1,25 @@
 // The passes over the records and along the index in the test behind number 28, each linear.
 #![tactic(auto)]
 
-ghost use Rattle.std.specs.Prelude.{◌≡◌, ◌+◌, ◌*◌, ◌≤◌, length};
-ghost use Rattle.config.specs.Limits.{record_words};
-ghost use Rattle.table.specs.Table.{records_from, index_from};
+ghost use Rattle.std.specs.Prelude.{◌≡◌, ◌≤◌, length};
+ghost use Rattle.table.specs.Parts.{templates_of, index_of};
 ghost use Rattle.table.specs.WellFormed.{index_rises};
 ghost use Rattle.table_passes.specs.Passes.{labels_below, record_fresh, Allowed, KeysSmall};
 
 use config::RECORD_WORDS;
-use table::{INDEX, TemplateRecord, record_at};
+use table::{INDEX, TemplateRecord, template_of};
 
 // Every key is below this: a 16-bit id.
 const KEYS: u64 = 65536;
 
 // Whether the labels of all records are below this.
-pub fn labels_below(words: &[u64], from: usize, records: usize, most: u64) -> bool
-    requires { from + record_words * records ≤ length words.now }
-    ensures { result ≡ labels_below most (records_from words.now from records) }
+pub fn labels_below(records: &[[u64; RECORD_WORDS]], most: u64) -> bool
+    ensures { result ≡ labels_below most (templates_of records.now) }
 {
-    for i in 0..records {
-        let template = record_at(words, from + RECORD_WORDS * i);
-        if most <= template.label {
-            return false;
-        }
-    }
-    true
+    records
+        .iter()
+        .map(|words| template_of(words))
+        .all(|template| template.label < most)
 }
 
 // Whether a record's key and count are in range and its label, which was allowed `was` entries before, is new.
@@ -37,20 +32,17 @@ fn record_fresh(template: TemplateRecord, was: u32, cap: u64) -> bool
 
 // The pass over the records: each label is allowed as many entries as its record counts.
 pub fn records_pass(
-    words: &[u64],
+    records: &[[u64; RECORD_WORDS]],
     allow: &mut [u32],
-    from: usize,
-    records: usize,
     cap: u64,
     entries: u64,
 ) -> bool
-    requires { (from + record_words * records ≤ length words.now) × ((records ≤ 1024) × (cap ≤ 262144)) }
-    ensures { Allowed cap entries (records_from words.now from records) allow.old
-        allow.new result }
+    requires { (length records.now ≤ 1024) × (cap ≤ 262144) }
+    ensures { Allowed cap entries (templates_of records.now) allow.old allow.new result }
 {
     let mut sum: u64 = 0;
-    for i in 0..records {
-        let template = record_at(words, from + RECORD_WORDS * i);
+    for words in records {
+        let template = template_of(words);
         if (allow.len() as u64) <= template.label {
             return false;
         }
@@ -65,18 +57,17 @@ pub fn records_pass(
 }
 
 // The pass along the index: the keys rise, so that none stands twice.
-pub fn index_rises(words: &[u64], from: usize, records: usize) -> bool
-    requires { (from + record_words * records ≤ length words.now) × KeysSmall words.now from records }
-    ensures { result ≡ index_rises (records_from words.now from records) 0
-        (index_from words.now from records) }
+pub fn index_rises(records: &[[u64; RECORD_WORDS]]) -> bool
+    requires { KeysSmall (templates_of records.now) }
+    ensures { result ≡ index_rises (templates_of records.now) 0 (index_of records.now) }
 {
     let mut low: u64 = 0;
-    for i in 0..records {
-        let position = words[from + RECORD_WORDS * i + INDEX];
-        if (records as u64) <= position {
+    for words in records {
+        let position = words[INDEX];
+        if (records.len() as u64) <= position {
             return false;
         }
-        let key = words[from + RECORD_WORDS * (position as usize)];
+        let key = records[position as usize][0];
         if key < low {
             return false;
         }

@@ -2,26 +2,26 @@
 ghost use Rattle.std.specs.Prelude.{◌≡◌, true, ◌+◌, ◌*◌, ◌≤◌, length};
 ghost use Rattle.config.specs.Limits.{record_words};
 ghost use Rattle.table.specs.Table.{records_from, index_from};
+ghost use Rattle.table.specs.Parts.{templates_of};
 ghost use Rattle.table.specs.WellFormed.{key_at, index_rises};
 ghost use Rattle.table_records.specs.Add.{Adds};
 ghost use Rattle.table_records.specs.Passes.{OpensIndex};
 
 use config::RECORD_WORDS;
-use table::{INDEX, TemplateRecord};
+use table::{INDEX, TemplateRecord, records_in, template_of};
 use table_records::put_record;
 
 // The key of the record at a position; of none, 0.
-fn key_at(words: &[u64], from: usize, records: usize, position: u64) -> u64
-    requires { from + record_words * records ≤ length words.now }
-    ensures { result ≡ key_at (records_from words.now from records) position }
+fn key_at(records: &[[u64; RECORD_WORDS]], position: u64) -> u64
+    ensures { result ≡ key_at (templates_of records.now) position }
 {
-    if (records as u64) <= position {
-        return 0;
-    }
-    words[from + RECORD_WORDS * (position as usize)]
+    records
+        .get(position as usize)
+        .map_or(0, |words| template_of(words).key)
 }
 
 // Moves the index words of greater keys one place on, from the back, and returns the place that is free then.
+// The words and a place, no parts: `as_chunks_mut` says nothing of what the words end as.
 fn open_index(words: &mut [u64], from: usize, records: usize, key: u64) -> usize
     requires records_in_bounds { from + record_words * (records + 1) ≤ length words.old }
     requires records_value { index_rises (records_from words.old from records) 0 (index_from words.old from records) ≡ true }
@@ -30,7 +30,8 @@ fn open_index(words: &mut [u64], from: usize, records: usize, key: u64) -> usize
     for k in (0..records).rev() {
         let p = from + RECORD_WORDS * k;
         let position = words[p + INDEX];
-        if key_at(words, from, records, position) <= key {
+        let known = records_in(words, from, records);
+        if key_at(known, position) <= key {
             return k + 1;
         }
         words[p + RECORD_WORDS + INDEX] = position;
@@ -39,6 +40,7 @@ fn open_index(words: &mut [u64], from: usize, records: usize, key: u64) -> usize
 }
 
 // Adds a record behind those from word `from` on, and its position to the index.
+// The words and a place, no parts: `as_chunks_mut` says nothing of what the words end as.
 pub fn add_record(words: &mut [u64], from: usize, records: usize, template: TemplateRecord)
     requires records_in_bounds { from + record_words * (records + 1) ≤ length words.old }
     requires records_value { index_rises (records_from words.old from records) 0 (index_from words.old from records) ≡ true }

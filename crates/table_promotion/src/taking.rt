@@ -1,36 +1,28 @@
 // Taking one record off: the records behind it move up, and the index follows.
 ghost use Rattle.std.specs.Prelude.{◌≡◌, ◌+◌, ◌*◌, ◌≤◌, ◌<◌, length, get_or};
 ghost use Rattle.config.specs.Limits.{record_words};
-ghost use Rattle.table.specs.Table.{records_from};
+ghost use Rattle.table.specs.Parts.{templates_of};
 ghost use Rattle.table_records.specs.Close.{nowhere};
-ghost use Rattle.table_records.specs.Take.{place_of, positions_but, TakesOff};
+ghost use Rattle.table_records.specs.Take.{found_place, positions_but, TakesOff};
 ghost use Rattle.table_promotion.specs.Taking.{TakesLabel};
-ghost use Rattle.table_records.specs.Passes.{MovesUp, ClosesIndex};
+ghost use Rattle.table_records.specs.Passes.{MovesUp};
 
 use config::RECORD_WORDS;
-use table::{INDEX, record_at};
-use table_records::{capped_count, put_record};
+use table::{record_at, records_in, template_of};
+use table_records::{NOWHERE, capped_count, close_index, put_record};
 
-// What stands for the new position of a record that goes.
-// No Option: the promises have positions as such numbers, and it would be told apart from a number again at once.
-const NOWHERE: u64 = 1024;
-
-// The place of the first record with this label; where none has it, the number of records.
-#[tactic(auto, using(table_records::proofs::Places::seeking))]
-pub fn place_of(words: &[u64], from: usize, records: usize, label: u64) -> usize
-    requires { from + record_words * records ≤ length words.now }
-    ensures { result ≡ place_of label (records_from words.now from records) }
+// The place of the first record with this label.
+pub fn place_of(records: &[[u64; RECORD_WORDS]], label: u64) -> Option<usize>
+    ensures { result ≡ found_place label (templates_of records.now) }
 {
-    for i in 0..records {
-        let template = record_at(words, from + RECORD_WORDS * i);
-        if label == template.label {
-            return i;
-        }
-    }
     records
+        .iter()
+        .map(|words| template_of(words))
+        .position(|template| label == template.label)
 }
 
 // Moves the records behind a place up by one; index words stay.
+// The words and a place, no parts: `as_chunks_mut` says nothing of what the words end as.
 fn move_up(words: &mut [u64], from: usize, records: usize, at: usize)
     requires { (from + record_words * records ≤ length words.old) × (at < records) }
     ensures { MovesUp from records at words.old words.new }
@@ -59,29 +51,17 @@ fn position_but(at: usize, records: usize, position: u64) -> u64
     NOWHERE
 }
 
-// Moves the index words of the other records together, by their new positions.
-fn lower_index(words: &mut [u64], from: usize, records: usize, at: usize)
-    requires { (from + record_words * records ≤ length words.old) × (at < records) }
-    ensures { ClosesIndex from records (positions_but 0 at records) words.old words.new }
-{
-    let mut remain: usize = 0;
-    for k in 0..records {
-        let position = position_but(at, records, words[from + RECORD_WORDS * k + INDEX]);
-        if position < NOWHERE {
-            words[from + RECORD_WORDS * remain + INDEX] = position;
-            remain += 1;
-        }
-    }
-}
-
 // Takes the record at a place off, and returns how many bodies it counted.
+// The words and a place, no parts: `as_chunks_mut` says nothing of what the words end as.
 pub fn take_off(words: &mut [u64], from: usize, records: usize, at: usize) -> u32
     requires { (from + record_words * records ≤ length words.old) × (at < records) }
     ensures { TakesOff from records at words.old words.new result }
 {
     let template = record_at(words, from + RECORD_WORDS * at);
     move_up(words, from, records, at);
-    lower_index(words, from, records, at);
+    close_index(words, from, records, |position| {
+        position_but(at, records, position)
+    });
     capped_count(template.count)
 }
 
@@ -93,14 +73,15 @@ pub struct Taken {
 }
 
 // Takes the record of a label off, where there is one.
+// The words and a place, no parts: `as_chunks_mut` says nothing of what the words end as.
 pub fn take_record(words: &mut [u64], from: usize, records: usize, label: u64) -> Taken
     requires { from + record_words * records ≤ length words.old }
     ensures { TakesLabel label from records words.old words.new result }
 {
-    let at = place_of(words, from, records, label);
-    if records <= at {
+    let known = records_in(words, from, records);
+    let Some(at) = place_of(known, label) else {
         return Taken { records, bodies: 0 };
-    }
+    };
     let bodies = take_off(words, from, records, at);
     let remain = records - 1;
     Taken {

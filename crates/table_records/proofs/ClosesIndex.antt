@@ -3,6 +3,7 @@ use mathlib.Core.Path.{◌≡◌, refl, sym, ap, ◌∙◌}
 use mathlib.Core.List.{List, ◌∷◌, ◌++◌, append_assoc, append-nil}
 use Prim.Native.Nat.{ℕ, ◌+◌, ◌*◌, ◌-◌, ◌≤◌, ◌<◌}
 use native.Mathlib.Omega.{arith}
+use native.Mathlib.Decide.{ℕ_discrete}
 use lib.ListN.{length, get_or, set, take, drop, length-set}
 use lib.Seq.{take-set-le, drop-set-lt}
 use borrow.Author.Tests.{lt-ltb, le-ltb}
@@ -13,6 +14,15 @@ use Rattle.table.proofs.Words.{index_first, index_none, length_index}
 use Rattle.table_records.specs.Close.{nowhere, remapped}
 use Rattle.table_records.specs.Passes.{ClosesIndex}
 use Rattle.table_records.proofs.Frames.{word_other, word_same, records_same, index_same, index_one_more}
+
+-- words stay below a bound that what is stored is below
+pub below_stored : (w : List ℕ) (i a most : ℕ) → i < length w → a < most → ((j : ℕ) → word w j < most) →
+    (j : ℕ) → word (set w i a) j < most
+below_stored w i a most room few below j = by_place (ℕ_discrete j i)
+  where
+    by_place : Dec (j ≡ i) → word (set w i a) j < most
+    by_place (yes e) = rw (e, word_same w i a room) few
+    by_place (no d) = rw (word_other w i j a d) (below j)
 
 -- `remain` index words remain of those passed, and `left` index words are left, from word p on
 pub record Remapping (from records : ℕ) (ps w₀ w : List ℕ) (remain left p : ℕ) : Type 0 where

@@ -15,8 +15,9 @@ use lib.Seq.{drop-cons}
 use lib.ListN.{length, get_or, drop, drop_of_length-le, replicate, length-replicate, get_or-replicate}
 use borrow.Author.Tests.{eqb-true, eqb-false, ltb-false}
 use Rattle.table.specs.declared.TemplateRecord.{TemplateRecord}
-use Rattle.table.specs.Table.{records_from, has_label}
-use Rattle.table.proofs.Words.{length_records}
+use Rattle.table.specs.Table.{has_label}
+use Rattle.table.specs.Parts.{template_of, templates_of}
+use Rattle.std.proofs.lemmas.List.{length-map}
 use Rattle.table_records.specs.Choose.{skip_all, skipping, least_free, RoomForLabels, FreeLabel}
 use Rattle.table_records.proofs.Skips.{length_skipping, skipping_at}
 
@@ -127,20 +128,24 @@ module _ (kept : List ℕ) (rs : List TemplateRecord) where
       (omega (arith, found.0), found.1)
 
 -- where each label of a record has some
-pub free_found : (w : List ℕ) (p n : ℕ) (clear used : List ℕ) (k : ℕ) → RoomForLabels n clear →
-    used ≡ skipping clear (records_from w p n) → k ≡ least_free used 0 (length used) → FreeLabel (records_from w p n) k
-free_found w p n clear used k room is least =
-    let found = least_free_lem used rs (length used) (omega (arith, room.more, length_records w p n, long))
+pub free_found : (parts : List (List ℕ)) (clear used : List ℕ) (k : ℕ) → RoomForLabels (length parts) clear →
+    used ≡ skipping clear (templates_of parts) → k ≡ least_free used 0 (length used) →
+    FreeLabel (templates_of parts) k
+free_found parts clear used k room is least =
+    let found = least_free_lem used rs (length used) (omega (arith, room.more, many, long))
     (λ j h some. has_some j (omega (arith, h, long)) (has_label j rs) refl some) in
     let below : k < length clear = omega (arith, found.0, long) in
     record {
       below = omega (arith, room.within);
-      few = λ h. omega (arith, room.few (omega (arith, length_records w p n)));
+      few = λ h. omega (arith, room.few (omega (arith, many)));
       absent = has_none below (has_label k rs) refl (rw least found.1);
     }
   where
     rs : List TemplateRecord
-    rs = records_from w p n
+    rs = templates_of parts
+
+    many : length rs ≡ length parts
+    many = length-map parts template_of
 
     long : length used ≡ length clear
     long = ap length is ∙ length_skipping clear rs

@@ -5,30 +5,19 @@ use mathlib.Core.List.{List, [], ◌∷◌, ◌++◌, append_assoc, append-nil}
 use Prim.Native.Nat.{ℕ, ◌+◌, ◌*◌, ◌-◌, ◌≤◌, ◌<◌}
 use native.Mathlib.Omega.{arith}
 use native.Mathlib.Decide.{ℕ_discrete}
-use lib.ListN.{length, set, take, drop, length-set, get_or-eq_default}
+use lib.ListN.{length, set, take, drop, length-set}
 use lib.Seq.{take-set-le, drop-set-lt}
 use Rattle.config.specs.Limits.{record_words}
 use Rattle.table.specs.declared.TemplateRecord.{TemplateRecord}
 use Rattle.table.specs.Layout.{word}
 use Rattle.table.specs.Table.{records_from, index_from}
 use Rattle.table.specs.WellFormed.{key_at, index_rises}
-use Rattle.table.proofs.Words.{index_first, index_none, key_word, length_records}
+use Rattle.table.proofs.Words.{index_first, index_none}
 use Rattle.table_records.specs.Add.{inserted}
 use Rattle.table_records.specs.Passes.{OpensIndex}
 use Rattle.table_records.proofs.Frames.{word_other, word_same, records_same, index_shifted, index_add}
 use Rattle.table_records.proofs.Frames.{index_one_more}
 use Rattle.table_records.proofs.Inserted.{insert_before, insert_behind}
-
--- the key at a position that may be none
-module _ (w : List ℕ) (from records position : ℕ) where
-  pub no_key : records ≤ position → 0 ≡ key_at (records_from w from records) position
-  no_key h =
-      sym (ap (λ (r : TemplateRecord). r.key)
-      (get_or-eq_default (records_from w from records) _ (omega (arith, length_records w from records))))
-
-  pub key_there : position < records → word w (from + record_words * position)
-      ≡ key_at (records_from w from records) position
-  key_there h = sym (key_word w from records position h)
 
 -- the index words from place `free` on have moved one place on: their keys are greater
 pub record Opening (from records key : ℕ) (w₀ w : List ℕ) (free : ℕ) : Type 0 where

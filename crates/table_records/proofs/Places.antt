@@ -1,52 +1,57 @@
 -- The place of a record by its label, and the new positions of the others once it is taken off. Assumes nothing.
 use mathlib.Core.Path.{◌≡◌, refl, sym, ap, ◌∙◌}
 use mathlib.Core.Logic.{◌≢◌}
-use mathlib.Core.Bool.{Bool, true, false, cond}
+use mathlib.Core.Bool.{Bool, true, false, not, cond}
 use mathlib.Core.List.{List, [], ◌∷◌, ◌++◌}
 use Prim.Native.Nat.{ℕ, zero, suc, ◌+◌, ◌*◌, ◌-◌, ◌≤◌, ◌<◌}
 use native.Mathlib.Omega.{arith}
-use lib.Dec.{eqb}
+use lib.Dec.{eqb, ltb}
 use lib.ListN.{length, get_or, get_or-eq_default}
-use borrow.Author.Tests.{eqb-true, eqb-false, eq-eqb, ne_eqb}
+use borrow.Author.Tests.{eqb-true, eqb-false, ltb-true, ltb-false}
+use Rattle.std.specs.Prelude.{Option, Some, None}
+use Rattle.std.specs.List.{position_or_len}
 use Rattle.config.specs.Limits.{record_words}
 use Rattle.config.proofs.Lists.{All}
 use Rattle.table.specs.declared.TemplateRecord.{TemplateRecord}
 use Rattle.table.specs.Table.{record_at, records_from}
 use Rattle.table_records.specs.Close.{nowhere}
-use Rattle.table_records.proofs.Chosen.{rest, rest_all, rest_none, rest_first}
-use Rattle.table_records.specs.Take.{place_of, without_at, count_up, positions_but}
+use Rattle.table_records.specs.Take.{place_of, found_place, without_at, count_up, positions_but}
 
 -- ---- looking for the label
 
--- none of the first i records has it
-pub record PlaceSought (w : List ℕ) (label p n i : ℕ) : Type 0 where
-  pub rest_sought : place_of label (records_from w p n) ≡ i + place_of label (rest w p n i)
+-- as std counts the records before it
+place_counted : (label : ℕ) (rs : List TemplateRecord) → position_or_len (λ r. eqb label r.label) rs ≡ place_of label rs
+unfolding place_of
+place_counted label [] = refl
+place_counted label (r ∷ rs) = by_label (eqb label r.label) (place_counted label rs)
+  where
+    later : ℕ
+    later = position_or_len (λ r. eqb label r.label) rs
 
-pub none_passed : (w : List ℕ) (label p n : ℕ) → PlaceSought w label p n 0
-none_passed w label p n = record { rest_sought = rw (rest_all w p n) (omega arith) }
+    by_label : (t : Bool) → later ≡ place_of label rs →
+        cond (not t) (1 + later) 0 ≡ cond t 0 (suc (place_of label rs))
+    by_label true ih = refl
+    by_label false ih = omega (arith, ih)
 
-module _ {w : List ℕ} {label p n i : ℕ} (inv : PlaceSought w label p n i) where
-  pub no_place : n ≤ i → i ≤ n → n ≡ place_of label (records_from w p n)
-  unfolding place_of
-  no_place h few =
-      let z : place_of label (rest w p n i) ≡ 0 = rw (rest_none w p n i h) in
-      omega (arith, inv.rest_sought)
+module _ (label : ℕ) (rs : List TemplateRecord) {x : Option ℕ} (sought : x ≡ found_place label rs) where
+  by_test : (t : Bool) → ltb (place_of label rs) (length rs) ≡ t → x ≡ cond t (Some (place_of label rs)) None
+  by_test t e = sought ∙ rw (place_counted label rs, e)
 
-  module _ (r : TemplateRecord) (more : i < n) (is : r ≡ record_at w (p + record_words * i)) where
-    pub place_found : label ≡ r.label → i ≡ place_of label (records_from w p n)
-    unfolding place_of
-    place_found e =
-        let z : place_of label (rest w p n i) ≡ 0 = rw (rest_first w p n i r more is, eq-eqb label r.label e) in
-        omega (arith, inv.rest_sought)
+  pub place_told : (i : ℕ) → x ≡ Some i → (i ≡ place_of label rs) × (place_of label rs < length rs)
+  place_told i some = by_tests (ltb (place_of label rs) (length rs)) refl
+    where
+      by_tests : (t : Bool) → ltb (place_of label rs) (length rs) ≡ t →
+          (i ≡ place_of label rs) × (place_of label rs < length rs)
+      by_tests true e =
+          let is = by_test true e in (cc, ltb-true (place_of label rs) (length rs) e)
+      by_tests false e = let is = by_test false e in absurd cc
 
-    pub place_further : (label ≡ r.label → ⊥) → PlaceSought w label p n (i + 1)
-    unfolding place_of
-    place_further d =
-        let next : place_of label (rest w p n i) ≡ suc (place_of label (rest w p n (i + 1))) =
-        rw (rest_first w p n i r more is, ne_eqb label r.label d) in
-        record { rest_sought = omega (arith, inv.rest_sought) }
-
-pub ruleset seeking = (none_passed, no_place, place_found, place_further)
+  pub no_place_told : x ≡ None → length rs ≤ place_of label rs
+  no_place_told none = by_tests (ltb (place_of label rs) (length rs)) refl
+    where
+      by_tests : (t : Bool) → ltb (place_of label rs) (length rs) ≡ t → length rs ≤ place_of label rs
+      by_tests true e = let is = by_test true e in absurd cc
+      by_tests false e = ltb-false (place_of label rs) (length rs) e
 
 -- what is known of each record is known of the one at its place, which has the label
 pub place_has : (P : TemplateRecord → Type 0) (label : ℕ) (w : List ℕ) (p k : ℕ) → All P (records_from w p k) →

@@ -1,7 +1,10 @@
 -- What is chosen by looking at the records alone, with sums by label beside them. Nothing is written.
-use Rattle.std.specs.Prelude.{◌≡◌, List, [], ◌∷◌, false, cond, ℕ, zero, suc, ◌+◌, ◌-◌, ◌≤◌, ◌<◌, eqb, ltb, length, get_or, set, replicate}
+use Rattle.std.specs.Prelude.{Option}
+use Rattle.std.specs.Prelude.{◌≡◌, List, [], ◌∷◌, false, cond, ℕ, zero, suc, ◌+◌, ◌-◌, ◌≤◌, ◌<◌, eqb, ltb, max, map, length, get_or, set, replicate}
+use Rattle.std.specs.List.{find, fold}
 use Rattle.table.specs.declared.TemplateRecord.{TemplateRecord}
 use Rattle.table.specs.Table.{has_label}
+use Rattle.table.specs.Reads.{label_or_none}
 
 -- more than any template has
 abbrev pub skip_all : ℕ
@@ -26,28 +29,26 @@ evictions_of room sizes total [] = 0
 evictions_of room sizes total (r ∷ rs) =
     cond (ltb room total) (suc (evictions_of room sizes (total - get_or sizes r.label 0) rs)) 0
 
--- how many of these records have live bodies, and the label of the first one; where there is none, what is no label
+-- how many of these records have live bodies, and the label of the first one
 unfoldable pub live_records : List ℕ → List TemplateRecord → ℕ
 live_records live [] = 0
 live_records live (r ∷ rs) = cond (ltb 0 (get_or live r.label 0)) 1 0 + live_records live rs
 
-unfoldable pub first_live : List ℕ → List TemplateRecord → ℕ
-first_live live [] = 1024
-first_live live (r ∷ rs) = cond (ltb 0 (get_or live r.label 0)) r.label (first_live live rs)
+abbrev pub label_of_first_live : List ℕ → List TemplateRecord → Option ℕ
+label_of_first_live live rs = find (λ label. ltb 0 (get_or live label 0)) (map (λ r. r.label) rs)
+
+-- the same with what is no label where there is none
+abbrev pub first_live : List ℕ → List TemplateRecord → ℕ
+first_live live rs = label_or_none (label_of_first_live live rs)
 
 -- the least label, from k on, that has 0; n labels are looked at
 unfoldable pub least_free : List ℕ → ℕ → ℕ → ℕ
 least_free used k zero = k
 least_free used k (suc n) = cond (eqb (get_or used k 0) 0) k (least_free used (k + 1) n)
 
--- the greater of two numbers
-abbrev pub greater_of : ℕ → ℕ → ℕ
-greater_of a b = cond (ltb a b) b a
-
--- the greatest label of these records, at least `most`
-unfoldable pub greatest_label : ℕ → List TemplateRecord → ℕ
-greatest_label most [] = most
-greatest_label most (r ∷ rs) = greatest_label (greater_of most r.label) rs
+-- the greatest label of these records; 0 where there is none
+abbrev pub greatest_label : List TemplateRecord → ℕ
+greatest_label rs = fold (λ most r. max most r.label) 0 rs
 
 -- the last label that is taken as the one behind the greatest, where there are n records
 unfoldable pub last_label : ℕ → ℕ

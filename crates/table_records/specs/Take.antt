@@ -1,5 +1,7 @@
 -- Taking one record off: the records behind it move up, and the index follows.
+use Rattle.std.specs.Prelude.{Option}
 use Rattle.std.specs.Prelude.{◌≡◌, List, [], ◌∷◌, cond, ℕ, zero, suc, ◌+◌, ◌*◌, ◌-◌, min, eqb, length, take, drop}
+use Rattle.std.specs.List.{position}
 use Rattle.config.specs.Limits.{record_words}
 use Rattle.table.specs.declared.TemplateRecord.{TemplateRecord}
 use Rattle.table.specs.Table.{record_at, records_from, index_from}
@@ -9,6 +11,10 @@ use Rattle.table_records.specs.Close.{nowhere, remapped}
 unfoldable pub place_of : ℕ → List TemplateRecord → ℕ
 place_of label [] = 0
 place_of label (r ∷ rs) = cond (eqb label r.label) 0 (suc (place_of label rs))
+
+-- the same, but where none has it, none
+abbrev pub found_place : ℕ → List TemplateRecord → Option ℕ
+found_place label rs = position (λ r. eqb label r.label) rs
 
 -- the records without the one at a place
 unfoldable pub without_at : ℕ → List TemplateRecord → List TemplateRecord

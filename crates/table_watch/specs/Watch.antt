@@ -1,16 +1,15 @@
 -- What is watched while the entries are tested, and what was seen of it at the end.
 use Rattle.std.specs.Prelude.{Option, Some, None, Result, Ok, Err}
 use Rattle.table.specs.declared.Damaged.{Damaged}
-use Rattle.std.specs.Prelude.{List, [], ◌∷◌, Bool, ◌&&◌, cond, ℕ, ◌+◌, ◌*◌, ◌-◌, eqb, leb, ltb}
-use Rattle.config.specs.Limits.{entry_words}
+use Rattle.std.specs.Prelude.{List, [], ◌∷◌, Bool, ◌&&◌, cond, ℕ, ◌+◌, ◌-◌, eqb, leb, ltb, length}
+use Rattle.std.specs.List.{slice_get}
 use Rattle.table.specs.declared.Entry.{Entry}
 use Rattle.table.specs.declared.TemplateRecord.{TemplateRecord}
 use Rattle.table_watch.specs.declared.Sought.{Sought}
 use Rattle.table_watch.specs.declared.LabelSeen.{LabelSeen}
 use Rattle.table_watch.specs.declared.Watch.{Watch}
 use Rattle.table_watch.specs.declared.Passed.{Passed}
-use Rattle.table.specs.Layout.{entries_at}
-use Rattle.table.specs.Table.{Table, entry_at}
+use Rattle.table.specs.Table.{Table}
 use Rattle.table.specs.Passes.{first_label}
 use Rattle.table.specs.Reads.{label_of, label_or_none}
 
@@ -64,8 +63,5 @@ unfoldable pub passed_more : Watch → Entry → ℕ → Passed → Passed
 passed_more v e left c =
     cond (is_watched v e) (record { live = c.live + 1; left = kept_of c.live v.nth c.left left }) c
 
-unfoldable pub label_seen : List ℕ → ℕ → ℕ → Passed → LabelSeen
-label_seen w entries nth c = record {
-  live = c.live;
-  found = cond (ltb nth c.live) (Some (entry_at w (entries_at + entry_words * (entries - c.left)))) None;
-}
+unfoldable pub label_seen : List Entry → ℕ → Passed → LabelSeen
+label_seen es nth c = record { live = c.live; found = cond (ltb nth c.live) (slice_get es (length es - c.left)) None }

@@ -1,13 +1,12 @@
 // What is watched while the entries are tested: those of one label that are not too old are counted, and one is kept.
 #![tactic(auto)]
 
-ghost use Rattle.std.specs.Prelude.{◌≡◌, ◌+◌, ◌*◌, ◌^◌, ◌≤◌, ◌<◌, length};
-ghost use Rattle.config.specs.Limits.{header_words, record_words, entry_words};
-ghost use Rattle.table.specs.Table.{records_from, entry_at};
+ghost use Rattle.std.specs.Prelude.{◌≡◌, ◌+◌, ◌^◌, ◌≤◌, ◌<◌, length};
+ghost use Rattle.table.specs.Parts.{entry_of, entries_of, templates_of};
 ghost use Rattle.table_watch.specs.Watch.{live_watch, watch_for, kept_of, passed_more, label_seen};
 
-use config::{ENTRY_WORDS, HEADER_WORDS};
-use table::{Entry, LABELS, entry_at, label_for};
+use config::{ENTRY_WORDS, RECORD_WORDS};
+use table::{Entry, LABELS, entry_of, label_number, label_of};
 
 // What is looked for while a table is tested.
 #[derive(Clone, Copy)]
@@ -35,6 +34,13 @@ pub struct Watch {
     pub nth: usize,
 }
 
+// The watch for no entry: what is watched for is no label.
+const NOTHING: Watch = Watch {
+    label: LABELS as u64,
+    oldest: 0,
+    nth: 0,
+};
+
 // How many watched entries were passed, and how many entries were left at the one that is kept.
 #[derive(Clone, Copy)]
 pub struct Passed {
@@ -44,6 +50,7 @@ pub struct Passed {
 
 // The watch for the entries of a label that are not expired at a clock reading. With a TTL of 0 all are, and what is
 // watched for is no label.
+#[tactic(auto, unfolding(crate::specs::Watch::live_watch))]
 fn live_watch(label: u64, ttl: Option<u64>, clock: u64) -> Watch
     ensures { result ≡ live_watch label ttl clock }
 {
@@ -55,11 +62,7 @@ fn live_watch(label: u64, ttl: Option<u64>, clock: u64) -> Watch
         };
     };
     if limit == 0 {
-        return Watch {
-            label: LABELS as u64,
-            oldest: 0,
-            nth: 0,
-        };
+        return NOTHING;
     }
     if clock < limit {
         return Watch {
@@ -75,25 +78,17 @@ fn live_watch(label: u64, ttl: Option<u64>, clock: u64) -> Watch
     }
 }
 
-// The watch for what is sought: `held` records stand from word `from` on, and `out` is the handed-out label.
-pub fn watch_for(
-    words: &[u64],
-    from: usize,
-    held: usize,
-    ttl: Option<u64>,
-    out: u64,
-    sought: Sought,
-) -> Watch
-    requires { from + record_words * held ≤ length words.now }
-    ensures { result ≡ watch_for (records_from words.now from held) ttl out sought }
+// The watch for what is sought, by the held records and the handed-out label.
+#[tactic(auto, unfolding(crate::specs::Watch::watch_for))]
+pub fn watch_for(held: &[[u64; RECORD_WORDS]], ttl: Option<u64>, out: u64, sought: Sought) -> Watch
+    ensures { result ≡ watch_for (templates_of held.now) ttl out sought }
 {
     match sought {
-        Sought::Nothing => Watch {
-            label: LABELS as u64,
-            oldest: 0,
-            nth: 0,
-        },
-        Sought::Live { id, clock } => live_watch(label_for(words, from, held, id), ttl, clock),
+        Sought::Nothing => NOTHING,
+        Sought::Live { id, clock } => {
+            let label = label_number(label_of(held, id));
+            live_watch(label, ttl, clock)
+        }
         Sought::HandedOut(k) => Watch {
             label: out,
             oldest: 0,
@@ -103,30 +98,31 @@ pub fn watch_for(
 }
 
 // How many entries were left at the kept one, when one is passed behind `live` watched ones with `left` left.
+#[tactic(auto, unfolding(crate::specs::Watch::kept_of))]
 fn kept_of(live: usize, nth: usize, kept: usize, left: usize) -> usize
     ensures { result ≡ kept_of live nth kept left }
 {
     if live == nth { left } else { kept }
 }
 
-// What was passed, with the entry at p, at which `left` are left. Its clock reading is read anew, so that this is done
-// only where the label is watched.
+// What was passed, with the entry that the words are, at which `left` are left. Its clock reading is read anew, so that
+// this is done only where the label is watched.
+#[tactic(auto, unfolding(crate::specs::Watch::passed_more))]
 pub fn pass_entry(
-    words: &[u64],
-    p: usize,
+    words: &[u64; ENTRY_WORDS],
     entry: Entry,
     left: usize,
     passed: Passed,
     watch: Watch,
 ) -> Passed
-    requires entry_words_in_bounds { (p + entry_words ≤ length words.now) × (entry ≡ entry_at words.now p) }
+    requires entry_read { entry ≡ entry_of words.now }
     requires live_bound { passed.live + 1 < 2 ^ 64 }
     ensures { result ≡ passed_more watch entry left passed }
 {
     if watch.label != entry.label {
         return passed;
     }
-    if entry_at(words, p).clock < watch.oldest {
+    if entry_of(words).clock < watch.oldest {
         return passed;
     }
     let kept = kept_of(passed.live, watch.nth, passed.left, left);
@@ -137,14 +133,14 @@ pub fn pass_entry(
 }
 
 // How many watched entries were passed, and the one that is kept.
-pub fn label_seen(words: &[u64], entries: usize, passed: Passed, nth: usize) -> LabelSeen
-    requires entries_in_bounds { header_words + entry_words * entries ≤ length words.now }
-    requires left_nonzero { nth < passed.live → (0 < passed.left) × (passed.left ≤ entries) }
-    ensures { result ≡ label_seen words.now entries nth passed }
+#[tactic(auto, unfolding(crate::specs::Watch::label_seen))]
+pub fn label_seen(entries: &[[u64; ENTRY_WORDS]], passed: Passed, nth: usize) -> LabelSeen
+    requires left_nonzero { nth < passed.live → (0 < passed.left) × (passed.left ≤ length entries.now) }
+    ensures { result ≡ label_seen (entries_of entries.now) nth passed }
 {
     if nth < passed.live {
-        let p = HEADER_WORDS + ENTRY_WORDS * (entries - passed.left);
-        let found = Some(entry_at(words, p));
+        let i = entries.len() - passed.left;
+        let found = Some(entry_of(&entries[i]));
         return LabelSeen {
             live: passed.live,
             found,

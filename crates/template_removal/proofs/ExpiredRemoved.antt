@@ -10,7 +10,6 @@ use lib.Dec.{eqb, ltb}
 use lib.ListN.{length, get_or, replicate, length-replicate, get_or-replicate, get_or-eq_default}
 use lib.Seq.{get_or-set_other}
 use borrow.Author.Tests.{eqb-true, eqb-false, ltb-true, ltb-false, ne_eqb, le-leb}
-use Rattle.config.specs.declared.PendingFlowsConfig.{PendingFlowsConfig}
 use Rattle.config.specs.Limits.{record_words, entry_words}
 use Rattle.config.proofs.Lists.{All, all_map, all_both}
 use Rattle.table.specs.declared.Entry.{Entry}
@@ -35,7 +34,8 @@ use Rattle.table_records.proofs.Frames.{records_above, index_above}
 use Rattle.table_records.proofs.Places.{place_has, place_absent}
 use Rattle.table_records.proofs.Taken.{LeftBut}
 use Rattle.pending_flows.specs.declared.header.HeaderFigures.{HeaderFigures}
-use Rattle.pending_flows.specs.Header.{figures_at}
+use Rattle.pending_flows.specs.declared.header.Header.{Header}
+use Rattle.pending_flows.specs.Header.{HoldsCache}
 use Rattle.table_view.proofs.Removed.{label_counts_lem, none_set}
 use Rattle.table_view.proofs.Summed.{len_most}
 use Rattle.table_view.proofs.Tied.{entries_small, none_past}
@@ -225,36 +225,38 @@ module _ (w : List ℕ) (n : ℕ) (ok : well_formed w n ≡ true) (ttl : Option 
         (entries_below_records w n legal, records_within w n legal) (rw swept_is s) (ap counted (sym swept_is))
         (closed_apart p k label left (counted stay) w₁ w₂ bodies_left refl closes) long
 
--- with the limits and the figures that were read
-module _ (w : List ℕ) (n : ℕ) (ok : well_formed w n ≡ true) (now label : ℕ) {f : HeaderFigures}
-    {l : PendingFlowsConfig} {p : ℕ} (figures : f ≡ figures_at w) (limits : l ≡ limits_of w) (from : p ≡ records_at l)
-    {w₁ : List ℕ} {left : Kept} {q : StayTest} (is : q ≡ unexpired l.ttl now label)
-    (s : KeepsOnly (kept_by (stays q) (entries_from w entries_at f.entries)) f.entries w w₁ left) where
-  swept_read : KeepsOnly (stay w n ok l.ttl now label) (entry_count w) w w₁ left
-  swept_read = rw (is, figures) at s
+-- with the header that was read
+module _ (w : List ℕ) (n : ℕ) {h : Header} (holds : HoldsCache h w n) (now label : ℕ) {p : ℕ}
+    (from : p ≡ records_at h.limits) {w₁ : List ℕ} {left : Kept} {q : StayTest}
+    (is : q ≡ unexpired h.limits.ttl now label)
+    (s : KeepsOnly (kept_by (stays q) (entries_from w entries_at h.figures.entries)) h.figures.entries w w₁ left)
+  where
+    swept_read : KeepsOnly (stay w n holds.legal h.limits.ttl now label) (entry_count w) w w₁ left
+    swept_read = rw (is, holds.figures) at s
 
-  pub went_fits : f.entries - left.entries < 2 ^ 32
-  went_fits =
-      omega (
-        arith,
-        few w n ok l.ttl now label,
-        length_entries w entries_at (entry_count w),
-        ap (λ (g : HeaderFigures). g.entries) figures,
-      )
+    pub went_fits : h.figures.entries - left.entries < 2 ^ 32
+    went_fits =
+        omega (
+          arith,
+          few w n holds.legal h.limits.ttl now label,
+          length_entries w entries_at (entry_count w),
+          ap (λ (g : HeaderFigures). g.entries) holds.figures,
+        )
 
-  module _ {w₂ : List ℕ} {a : Taken} (t : TakesLabel label p (f.templates + f.chance) w₁ w₂ a) where
-    taken_read : TakesLabel label (records_at (limits_of w)) (held_count w + chance_count w) w₁ w₂ a
-    taken_read = rw (from, limits, figures) at t
+    module _ {w₂ : List ℕ} {a : Taken} (t : TakesLabel label p (h.figures.templates + h.figures.chance) w₁ w₂ a) where
+      taken_read : TakesLabel label (records_at (limits_of w)) (held_count w + chance_count w) w₁ w₂ a
+      taken_read = rw (from, holds.limits, holds.figures) at t
 
-    pub went_of_label : f.entries - left.entries ≤ a.bodies
-    went_of_label = rw figures (went_counted w n ok l.ttl now label swept_read taken_read)
+      pub went_of_label : h.figures.entries - left.entries ≤ a.bodies
+      went_of_label = rw holds.figures (went_counted w n holds.legal h.limits.ttl now label swept_read taken_read)
 
-    pub expired_removed : length w₂ ≡ length w →
-        RemovesFrom (unexpired l.ttl now label) label (replicate 1024 0) w w₂
-        (record {
-          entries = left.entries;
-          bytes = left.bytes;
-          records = a.records;
-          apart = a.bodies - (f.entries - left.entries);
-        })
-    expired_removed long = rw figures (removed_by w n ok l.ttl now label swept_read taken_read long)
+      pub expired_removed : length w₂ ≡ length w →
+          RemovesFrom (unexpired h.limits.ttl now label) label (replicate 1024 0) w w₂
+          (record {
+            entries = left.entries;
+            bytes = left.bytes;
+            records = a.records;
+            apart = a.bodies - (h.figures.entries - left.entries);
+          })
+      expired_removed long =
+          rw holds.figures (removed_by w n holds.legal h.limits.ttl now label swept_read taken_read long)

@@ -8,7 +8,6 @@ use Prim.Native.Nat.{ℕ, ◌+◌, ◌*◌, ◌^◌, ◌≤◌, ◌<◌}
 use native.Mathlib.Nat.{mod-eq_of_lt}
 use native.Mathlib.Omega.{arith}
 use lib.ListN.{length, set, replicate}
-use Rattle.config.specs.declared.PendingFlowsConfig.{PendingFlowsConfig}
 use Rattle.config.specs.Limits.{record_words, entry_words}
 use Rattle.table.specs.declared.Entry.{Entry}
 use Rattle.table.specs.Layout.{limits_of, held_count, entry_count, chance_count, entries_at, records_at}
@@ -30,8 +29,8 @@ use Rattle.entry_sweeps.specs.KeptBy.{kept_by}
 use Rattle.table_records.specs.Choose.{skip_all}
 use Rattle.table_records.specs.Close.{positions, remapped}
 use Rattle.table_records.proofs.Frames.{records_above, index_above}
-use Rattle.pending_flows.specs.declared.header.HeaderFigures.{HeaderFigures}
-use Rattle.pending_flows.specs.Header.{figures_at}
+use Rattle.pending_flows.specs.declared.header.Header.{Header}
+use Rattle.pending_flows.specs.Header.{HoldsCache}
 use Rattle.pending_calls.specs.declared.removal.Removed.{Removed}
 use Rattle.pending_calls.specs.Removal.{everything, unexpired, counted_but, RemovesTo}
 use Rattle.pending_calls.proofs.RemovedLemmas.{entries_below_records, records_within}
@@ -120,28 +119,28 @@ module _ (w : List ℕ) (n : ℕ) (ok : well_formed w n ≡ true) (b : List ℕ)
         };
       }
 
--- with the limits and the figures that were read
-module _ (w b : List ℕ) (ok : well_formed w (length b) ≡ true) where
+-- with the header that was read
+module _ (w b : List ℕ) {h : Header} (holds : HoldsCache h w (length b)) where
   placed : Placed 0 (length b) (entries_from w entries_at (entry_count w))
   placed =
-      let legal = words_say w (length b) ok in
+      let legal = words_say w (length b) holds.legal in
       placed_wider 0 (limits_of w).max_total_bytes (length b) (entries_from w entries_at (entry_count w))
       legal.limits_legal_lem.bytes_enough legal.table_legal_lem.entries_placed
 
-  pub places_within : {f : HeaderFigures} → f ≡ figures_at w →
-      places_legal 0 (length b) (entries_from w entries_at f.entries) ≡ true
-  places_within figures = rw figures (places_hold 0 (length b) (entries_from w entries_at (entry_count w)) placed)
+  pub places_within : places_legal 0 (length b) (entries_from w entries_at h.figures.entries) ≡ true
+  places_within =
+      rw holds.figures (places_hold 0 (length b) (entries_from w entries_at (entry_count w)) placed)
 
-  pub packing_removed : (label apart : ℕ) {f : HeaderFigures} {l : PendingFlowsConfig} {p : ℕ} → f ≡ figures_at w →
-      l ≡ limits_of w → p ≡ records_at l → {w₁ w' b' : List ℕ} {left : Kept} {q : StayTest} {r : Removed} →
-      q ≡ unexpired (Some 0) 0 label →
-      KeepsPacked (kept_by (stays q) (entries_from w entries_at f.entries)) f.entries w b w₁ b' left.entries
-      left.bytes →
-      TakesBoth label apart p (f.templates + f.chance) left w₁ w' r → length b < 2 ^ 64 → length w' ≡ length w →
+  pub packing_removed : (label apart : ℕ) {p : ℕ} → p ≡ records_at h.limits →
+      {w₁ w' b' : List ℕ} {left : Kept} {q : StayTest} {r : Removed} → q ≡ unexpired (Some 0) 0 label →
+      KeepsPacked (kept_by (stays q) (entries_from w entries_at h.figures.entries)) h.figures.entries w b w₁ b'
+      left.entries left.bytes →
+      TakesBoth label apart p (h.figures.templates + h.figures.chance) left w₁ w' r → length b < 2 ^ 64 →
+      length w' ≡ length w →
       RemovesPacking everything apart (set (replicate 1024 0) label skip_all) w b w' b' r
-  packing_removed label apart {f} figures limits from {q = q} test s t small long =
-      let others = kept_by (stays q) (entries_from w entries_at f.entries) in
-      let are = others_swept w (length b) ok label apart figures test in
+  packing_removed label apart from {q = q} test s t small long =
+      let others = kept_by (stays q) (entries_from w entries_at h.figures.entries) in
+      let are = others_swept w (length b) holds label apart test in
       let skip = set (replicate 1024 0) label skip_all in
       let es = entries_from w entries_at (entry_count w) in
       let fits : lens_sum (swept everything skip es) ≤ length b =
@@ -150,7 +149,7 @@ module _ (w b : List ℕ) (ok : well_formed w (length b) ≡ true) where
         lens_within 0 (length b) (swept everything skip es) (omega arith)
             (placed_swept everything skip 0 (length b) es placed),
       ) in
-      as_packed w (length b) ok b
-      (rw (← are) (others_removed w (length b) ok label apart figures test limits from t long (packed_entries 0 others)
+      as_packed w (length b) holds.legal b
+      (rw (← are) (others_removed w (length b) holds label apart test from t long (packed_entries 0 others)
       (lens_packed 0 others) (kept_packed (omega (arith, fits, ap lens_sum are)) s)))
       (rw (← are) s.bytes) (ap (λ (x : Removed). x.bytes) t.told ∙ rw (← are) s.end)

@@ -11,7 +11,6 @@ use lib.Dec.{eqb, ltb}
 use lib.ListN.{length, get_or, set, replicate, length-replicate, get_or-eq_default}
 use lib.Seq.{get_or-set_other}
 use borrow.Author.Tests.{eqb-true, eqb-false, ltb-true, ltb-false}
-use Rattle.config.specs.declared.PendingFlowsConfig.{PendingFlowsConfig}
 use Rattle.config.specs.Limits.{record_words, entry_words}
 use Rattle.config.specs.Age.{expired_at}
 use Rattle.config.proofs.Lists.{All, all_of, all_both}
@@ -40,8 +39,8 @@ use Rattle.table_records.proofs.ClosedIndex.{closed_rises}
 use Rattle.table_records.proofs.Frames.{records_above, index_above}
 use Rattle.table_records.proofs.Places.{place_has, place_absent}
 use Rattle.table_records.proofs.Taken.{LeftBut}
-use Rattle.pending_flows.specs.declared.header.HeaderFigures.{HeaderFigures}
-use Rattle.pending_flows.specs.Header.{figures_at}
+use Rattle.pending_flows.specs.declared.header.Header.{Header}
+use Rattle.pending_flows.specs.Header.{HoldsCache}
 use Rattle.table_view.proofs.AllStay.{all_stay}
 use Rattle.table_view.proofs.Removed.{label_counts_lem, none_set}
 use Rattle.table_view.proofs.Summed.{len_most}
@@ -277,32 +276,35 @@ module _ (w : List ℕ) (n : ℕ) (ok : well_formed w n ≡ true) (label apart :
         (closed_apart p k apart left kept w₁ w₃ bodies_told refl
         (closes_twice kept but emptied_swept few_records rises_swept own_closed apart_closed)) long
 
--- with the limits and the figures that were read
-module _ (w : List ℕ) (n : ℕ) (ok : well_formed w n ≡ true) (label apart : ℕ) {f : HeaderFigures} {q : StayTest}
-    (figures : f ≡ figures_at w) (test : q ≡ unexpired (Some 0) 0 label) where
+-- with the header that was read
+module _ (w : List ℕ) (n : ℕ) {h : Header} (holds : HoldsCache h w n) (label apart : ℕ) {q : StayTest}
+    (test : q ≡ unexpired (Some 0) 0 label) where
   -- the entries of the other labels
   abbrev others : List Entry
-  others = kept_by (stays q) (entries_from w entries_at f.entries)
+  others = kept_by (stays q) (entries_from w entries_at h.figures.entries)
 
-  others_stay : others ≡ stay w n ok label apart
-  others_stay = rw (test, figures) (zero_kept 0 label len_most (es w n ok label apart) (entries_short w n ok))
+  others_stay : others ≡ stay w n holds.legal label apart
+  others_stay =
+      rw (test, holds.figures)
+      (zero_kept 0 label len_most (es w n holds.legal label apart) (entries_short w n holds.legal))
 
   pub others_swept :
       others ≡ swept everything (set (replicate 1024 0) label skip_all) (entries_from w entries_at (entry_count w))
-  others_swept = others_stay ∙ sym (swept_is w n ok label apart)
+  others_swept = others_stay ∙ sym (swept_is w n holds.legal label apart)
 
-  module _ {l : PendingFlowsConfig} {p : ℕ} (limits : l ≡ limits_of w) (from : p ≡ records_at l) {w₁ w₃ : List ℕ}
-      {left : Kept} {r : Removed} (t : TakesBoth label apart p (f.templates + f.chance) left w₁ w₃ r)
+  module _ {p : ℕ} (from : p ≡ records_at h.limits) {w₁ w₃ : List ℕ} {left : Kept} {r : Removed}
+      (t : TakesBoth label apart p (h.figures.templates + h.figures.chance) left w₁ w₃ r)
       (long : length w₃ ≡ length w) where
     pub others_removed : (after : List Entry) → lens_sum after ≡ lens_sum others →
-        KeepsOnly after f.entries w w₁ left →
+        KeepsOnly after h.figures.entries w w₁ left →
         RemovesTo after everything (records_at (limits_of w)) (held_count w + chance_count w) (entry_count w) apart
         (set (replicate 1024 0) label skip_all) w w₃ r
     others_removed after lens s =
         rw t.told
-        (removed_to w n ok label apart after (lens ∙ ap lens_sum others_stay) (rw figures at s)
-        (rw (from, limits, figures) at t.takes_first) (rw (from, limits) at t.takes_second) long)
+        (removed_to w n holds.legal label apart after (lens ∙ ap lens_sum others_stay) (rw holds.figures at s)
+        (rw (from, holds.limits, holds.figures) at t.takes_first) (rw (from, holds.limits) at t.takes_second) long)
 
-    pub template_removed : KeepsOnly (kept_by (stays q) (entries_from w entries_at f.entries)) f.entries w w₁ left →
+    pub template_removed :
+        KeepsOnly (kept_by (stays q) (entries_from w entries_at h.figures.entries)) h.figures.entries w w₁ left →
         RemovesFrom everything apart (set (replicate 1024 0) label skip_all) w w₃ r
     template_removed s = rw (← others_swept) (others_removed others refl s)

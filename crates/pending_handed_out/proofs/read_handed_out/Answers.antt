@@ -1,26 +1,12 @@
 use Prim.Native.Nat.{◌+◌, ◌-◌}
 use mathlib.Core.Path.{◌≡◌}
 use native.Mathlib.Omega.{arith}
-use Rattle.pending_handed_out.proofs.HandedOut.{reads_handed_out, shown_none, shown_part, part_within}
+use Rattle.pending_handed_out.proofs.HandedOut.{reads_handed_out, shown_none, shown_part}
 use Rattle.pending_handed_out.proofs.read_handed_out.Goals as goal
 
 pub returns-in_default : goal.returns-in_default
 returns-in_default c = reads_handed_out
     (shown_none _ _ _ _ c.place_handed_out.ensures _ c.in_default.is)
-
-pub overflow_add-end : goal.overflow_add-end
-overflow_add-end c = omega (
-  arith,
-  part_within _ _ _ _ c.place_handed_out.ensures _
-      c.in-Ok.is,
-)
-
-pub slice_bounds-result-end-2 : goal.slice_bounds-result-end-2
-slice_bounds-result-end-2 c = omega (
-  arith,
-  part_within _ _ _ _
-      c.place_handed_out.ensures _ c.in-Ok.is,
-)
 
 pub returns : goal.returns
 returns c = let b = c.in-Ok.body in

@@ -1,12 +1,8 @@
-use Prim.Native.Nat.{◌-◌}
-use lib.ListN.{length}
 use Rattle.pending_flows.specs.View.{areas_of}
+use Rattle.std.specs.Slice.Iter.{split_inclusive_rest}
 use Rattle.pendlist_texts.proofs.Lists.{ListAhead}
 use Rattle.pendlist_texts.proofs.run_text.Given as goal
 
-abbrev pub invariant-loop-at : goal.invariant-loop-at
-invariant-loop-at l = ListAhead l.text l.opened-2 (areas_of l.initial.words l.initial.bytes) l.initial.out l.at
+abbrev pub invariant-loop-row : goal.invariant-loop-row
+invariant-loop-row l = ListAhead l.text l.opened-2 (areas_of l.initial.words l.initial.bytes) l.initial.out (split_inclusive_rest l.row-iterator)
     l.filled l.opened (areas_of l.words l.bytes) l.out
-
-abbrev pub decreases-loop-at : goal.decreases-loop-at
-decreases-loop-at l = length l.text - l.at

@@ -6,12 +6,14 @@ use Rattle.planned_removal.proofs.remove_skipped.Goals as goal
 
 pub remove_whole-requires : goal.remove_whole-requires
 remove_whole-requires c = record {
-  bytes_value = search rules;
-  figures_value = (search rules, search (planned_whole, rules));
+  header_value = search rules;
+  skip_value = search (planned_whole, rules);
+  live_value = search rules;
 }
 
 pub returns-then-plan : goal.returns-then-plan
-returns-then-plan c = search (whole_planned, rules)
+returns-then-plan c = whole_planned _ _ c.requires.header_value.legal _ _ _ c.requires.none_expired c.if-plan.true
+    c.skip_planned.ensures (rw c.stay_all.ensures at c.remove_whole.ensures)
 
 pub overflow_add-records : goal.overflow_add-records
 overflow_add-records c = record { fits = search (records_fit, rules) }
@@ -26,6 +28,4 @@ remove-requires c = record {
 }
 
 pub returns : goal.returns
-returns c = removed_planned _ _ c.requires.bytes_value.0 _ _ _ _ _ _ _ _ c.requires.figures_value.0
-    c.requires.bytes_value.1 c.records_at.ensures
-    c.stay_test.ensures c.skip_planned.ensures c.remove.ensures
+returns c = search (removed_planned, rules)

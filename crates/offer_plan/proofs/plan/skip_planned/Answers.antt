@@ -1,22 +1,22 @@
 use borrow.Author.Rules.{rules}
 use Rattle.offer_plan.proofs.Steps.{bodies_few}
-use Rattle.offer_plan.proofs.Offers.{held_scaled, handed_start, handed_within, planned_within, skips_set}
+use Rattle.offer_plan.proofs.Offers.{templates_few, templates_within, evicted_within, skips_done, skips_set}
 use Rattle.offer_plan.proofs.plan.skip_planned.Goals as goal
 
-pub records_at-from-requires : goal.records_at-from-requires
-records_at-from-requires c = search (bodies_few, rules)
+pub records_at-requires : goal.records_at-requires
+records_at-requires c = search (bodies_few, rules)
 
-pub overflow_mul-handed : goal.overflow_mul-handed
-overflow_mul-handed c = search (held_scaled, rules)
+pub overflow_add-held : goal.overflow_add-held
+overflow_add-held c = search (templates_few, rules)
 
-pub overflow_add-handed : goal.overflow_add-handed
-overflow_add-handed c = search (handed_start, rules)
+pub records_in-templates-requires : goal.records_in-templates-requires
+records_in-templates-requires c = search (templates_within, rules)
 
-pub skip_records-requires : goal.skip_records-requires
-skip_records-requires c = search (planned_within, rules)
+pub split_at-requires-2 : goal.split_at-requires-2
+split_at-requires-2 c = search (evicted_within, rules)
 
-pub skip_records-requires-2 : goal.skip_records-requires-2
-skip_records-requires-2 c = search (handed_within, rules)
+pub returns-in-Some : goal.returns-in-Some
+returns-in-Some c = search (skips_set, rules)
 
-pub returns : goal.returns
-returns c = search (skips_set, rules)
+pub returns-in_default : goal.returns-in_default
+returns-in_default c = search (skips_done, rules)

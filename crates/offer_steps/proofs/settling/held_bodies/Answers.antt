@@ -1,9 +1,6 @@
 use borrow.Author.Rules.{rules}
-use Rattle.offer_steps.proofs.HeldBodies.{handed_fewer, held_rest}
+use Rattle.offer_steps.proofs.HeldBodies.{handed_fewer}
 use Rattle.offer_steps.proofs.settling.held_bodies.Goals as goal
 
 pub overflow_sub-result : goal.overflow_sub-result
 overflow_sub-result c = search (handed_fewer, rules)
-
-pub returns : goal.returns
-returns c = search (held_rest, rules)

@@ -1,13 +1,13 @@
 use borrow.Author.Rules.{rules}
 use Rattle.table_entries.proofs.Ends.{last_small, end_fits}
-use Rattle.offer_steps.proofs.Rooms.{legal_wider, room_behind, room_packed}
+use Rattle.offer_steps.proofs.Rooms.{parts_legal, legal_wider, room_behind, room_packed}
 use Rattle.offer_steps.proofs.storing.make_room.Goals as goal
 
 pub last_end-end-requires : goal.last_end-end-requires
-last_end-end-requires c = search (last_small, rules)
+last_end-end-requires c = search (last_small, parts_legal, rules)
 
 pub overflow_add-end : goal.overflow_add-end
-overflow_add-end c = record { fits = search (end_fits, rules) }
+overflow_add-end c = record { fits = search (end_fits, parts_legal, rules) }
 
 pub returns-then-end-len : goal.returns-then-end-len
 returns-then-end-len c = search (room_behind, rules)

@@ -9,5 +9,5 @@ returns-then-is_err g c = search (header_failed, rules)
 
 pub returns : goal.returns
 returns g c =
-    program_done (g.W.Write.contents c.args.writer.now) (sym c.filled-bytes.ensures) (sym c.filled-words.ensures)
+    program_done (g.W.Write.contents c.args.writer.now) (sym c.array_of-bytes.ensures) (sym c.array_of-words.ensures)
     (said_at_ok c.write_header.result c.if-is_err.ensures.value c.write_header.ensures) c.run_input.ensures

@@ -1,23 +1,21 @@
-use Rattle.std.proofs.Common.{rules, refl, arith}
-use Rattle.table.proofs.Lookups.{none_summed, all_summed, live_summed, not_summed}
+use Rattle.std.proofs.Common.{refl}
+use Rattle.table.specs.Parts.{entry_of}
+use Rattle.table.proofs.Parts.{no_part, part_first}
+use Rattle.table.proofs.Lookups.{all_summed, live_summed, not_summed}
 use Rattle.table.proofs.reads.live_figures.Goals as goal
 use Rattle.table.proofs.reads.live_figures.Goals.{else-is_live, then-is_live}
 
-pub loop-i-init : goal.loop-i-init
-loop-i-init c = search (none_summed, rules)
-
-pub loop-i-preserved : goal.loop-i-preserved
-loop-i-preserved c =
+pub loop-words-preserved : goal.loop-words-preserved
+loop-words-preserved c =
+    let some = part_first entry_of c.args.entries.now c.loop-words.words-index _ c.loop-words-test.true
+    c.entry_of-entry.ensures in
     elim c.if-is_live.branch [
       | then-is_live v ↦
-          rw (v.bodies-is, v.bytes-is)
-          (live_summed c.loop-i.invariant _ _ (omega arith) c.entry_at-entry.ensures c.is_live.ensures v.if-is_live.true
-          refl (omega arith) (omega arith))
+          rw (v.bodies-is, v.bytes-is) (live_summed c.loop-words.invariant _ _ some c.is_live.ensures v.if-is_live.true refl)
       | else-is_live v ↦
-          rw (v.bodies-is, v.bytes-is)
-          (not_summed c.loop-i.invariant _ _ (omega arith) c.entry_at-entry.ensures c.is_live.ensures v.if-is_live.false
-          (omega arith) (omega arith))
+          rw (v.bodies-is, v.bytes-is) (not_summed c.loop-words.invariant _ _ some c.is_live.ensures v.if-is_live.false)
     ]
 
 pub returns : goal.returns
-returns c = all_summed c.loop-i.invariant (omega arith)
+returns c = all_summed c.loop-words.invariant (no_part entry_of c.args.entries.now c.loop-words.words-index
+    c.loop-words-test.false)

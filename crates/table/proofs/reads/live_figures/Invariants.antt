@@ -1,8 +1,6 @@
-use Rattle.std.proofs.Common.{◌+◌, ◌-◌, ◌*◌}
-use Rattle.config.specs.Limits.{header_words, entry_words}
+use Rattle.table.specs.Parts.{entries_of}
 use Rattle.table.proofs.Lookups.{LiveSummed}
 use Rattle.table.proofs.reads.live_figures.Given as goal
 
-abbrev pub invariant-loop-i : goal.invariant-loop-i
-invariant-loop-i l = LiveSummed l.words l.ttl l.clock l.label l.entries l.bodies l.bytes
-    (l.entries - l.i) (header_words + entry_words * l.i)
+abbrev pub invariant-loop-words : goal.invariant-loop-words
+invariant-loop-words l = LiveSummed l.ttl l.clock l.label (entries_of l.entries) l.bodies l.bytes l.words-index

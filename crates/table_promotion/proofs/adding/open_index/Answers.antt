@@ -12,7 +12,8 @@ returns-then-key_at-key c =
     rw here (search (not_greater, rules))
 
 pub loop-k-preserved : goal.loop-k-preserved
-loop-k-preserved c = key_moved c.loop-k.invariant _ (search rules) c.key_at.ensures
+loop-k-preserved c = key_moved c.loop-k.invariant _ (search rules)
+    (rw c.records_in-known.ensures.templates at c.key_at.ensures)
     (search rules) c.if-key_at-key.false
 
 pub returns : goal.returns

@@ -7,4 +7,4 @@ pub returns-then-greatest-last_label : goal.returns-then-greatest-last_label
 returns-then-greatest-last_label c = search (next_free, rules)
 
 pub least_unused-requires-2 : goal.least_unused-requires-2
-least_unused-requires-2 c = record { records_in_bounds = search rules; room_for_labels = search (room_for_all, rules) }
+least_unused-requires-2 c = search (room_for_all, rules)
