@@ -18,12 +18,6 @@ pub struct Answered {
     pub value: u64,
 }
 
-// What a row that is none is answered: no call has this number.
-const NO_CALL: Answered = Answered {
-    number: 99,
-    value: 0,
-};
-
 // The answer of a call that tells a value: 0 with it, or the refusal's number.
 fn told<E>(answer: Result<u64, E>) -> Answered
 where
@@ -55,15 +49,13 @@ fn limits_of(args: [u64; 8]) -> PendingFlowsConfig {
     }
 }
 
-// Offers the body of offer k.
-fn run_offer(words: &mut [u64], bytes: &mut [u8], args: [u64; 8], k: u64) -> Answered {
+// Offers the body of offer k; no answer where it would be longer than any.
+fn run_offer(words: &mut [u64], bytes: &mut [u8], args: [u64; 8], k: u64) -> Option<Answered> {
     let mut room = [0u8; LONGEST];
-    let Some(body) = room.get_mut(..args[1] as usize) else {
-        return NO_CALL;
-    };
+    let body = room.get_mut(..args[1] as usize)?;
     fill_body(body, k);
     let answer = cache(words, bytes, id_of(args[0]), body, args[2]);
-    told(answer.map(|()| 0))
+    Some(told(answer.map(|()| 0)))
 }
 
 // The length of a handed-out body, as it is read.
@@ -72,21 +64,18 @@ fn read_len(words: &[u64], bytes: &[u8], k: usize) -> Result<u64, PlaceRefusal> 
     Ok(read_handed_out(words, bytes, k).len() as u64)
 }
 
-// Makes a call; an offer is that of body k.
+// Makes a call; an offer is that of body k. What is no call, and an offer that is too long, has no answer.
 pub fn run_call(
     words: &mut [u64],
     bytes: &mut [u8],
     call: Option<Call>,
     args: [u64; 8],
     k: u64,
-) -> Answered {
-    let Some(call) = call else {
-        return NO_CALL;
-    };
+) -> Option<Answered> {
     let id = id_of(args[0]);
-    match call {
+    Some(match call? {
         Call::Open => told(open(limits_of(args), words, bytes).map(|()| 0)),
-        Call::Offer => run_offer(words, bytes, args, k),
+        Call::Offer => run_offer(words, bytes, args, k)?,
         Call::Drain => told(drain(words, bytes, id, args[1]).map(|count| count as u64)),
         Call::PutBack => {
             told(restore_replay_suffix(words, bytes, id, args[1] as usize).map(|()| 0))
@@ -97,5 +86,5 @@ pub fn run_call(
             told(would_accept(words, bytes, id, args[1] as usize, args[2]).map(|yes| yes as u64))
         }
         Call::Read => told(read_len(words, bytes, args[0] as usize)),
-    }
+    })
 }

@@ -36,20 +36,12 @@ fn records_begin(words: &[u64]) -> Option<usize> {
 
 // The entry with this label that stands behind j others, in table order.
 fn nth_entry(words: &[u64], label: u64, j: u64) -> Option<&[u64]> {
-    let mut passed: u64 = 0;
-    for entry in words
+    words
         .get(64..)?
         .chunks_exact(4)
         .take(word(words, 0, 10) as usize)
-    {
-        if word(entry, 0, 0) == label {
-            if passed == j {
-                return Some(entry);
-            }
-            passed = passed.saturating_add(1);
-        }
-    }
-    None
+        .filter(|entry| word(entry, 0, 0) == label)
+        .nth(j as usize)
 }
 
 // Whether the bytes at this place are the body of offer k.
@@ -118,21 +110,18 @@ pub fn same_templates(
     at: usize,
     offered: &[u64],
 ) -> Option<usize> {
-    let held = word(words, 0, 9);
+    let held = word(words, 0, 9) as usize;
     if held == 0 {
         return Some(at);
     }
-    let mut passed: u64 = 0;
-    let mut next = at;
-    for record in words
+    let records = words
         .get(records_begin(words)?..)?
-        .chunks_exact(8)
-        .take(held as usize)
-    {
+        .get(..held.checked_mul(8)?)?;
+    let mut next = at;
+    for record in records.chunks_exact(8) {
         next = same_template(words, bytes, record, line, next, offered)?;
-        passed = passed.saturating_add(1);
     }
-    if passed == held { Some(next) } else { None }
+    Some(next)
 }
 
 // Whether handed-out body j is that of offer k, by its length as placed and as read, and by its bytes.

@@ -4,9 +4,8 @@ use recorded::goes_on;
 use recorded_cache::{Answered, Row, same_handed_out, same_templates};
 
 // The part of a row that differs first.
-#[derive(Clone, Copy, PartialEq, Eq)]
-pub enum Verdict {
-    Same,
+#[derive(Clone, Copy)]
+pub enum Differs {
     // the line ends before its list
     Length,
     Number,
@@ -51,39 +50,40 @@ pub fn compare(
     bytes: &[u8],
     line: &[u8],
     row: Row,
-    got: Answered,
+    got: Option<Answered>,
     offered: &[u64],
-) -> Verdict {
+) -> Result<(), Differs> {
     let told = row.told;
-    let Some(listed) = row.listed else {
-        return Verdict::Length;
-    };
+    let listed = row.listed.ok_or(Differs::Length)?;
+    let got = got.ok_or(Differs::Number)?;
     if got.number != told[0] {
-        return Verdict::Number;
+        return Err(Differs::Number);
     }
     if got.value != told[1] {
-        return Verdict::Value;
+        return Err(Differs::Value);
     }
     if !same_figures(words, bytes, told) {
-        return Verdict::Figure;
+        return Err(Differs::Figure);
     }
     let same = if listed.value == 1 {
         same_list(words, bytes, line, listed.next, told[7] as usize, offered)
     } else {
         !goes_on(line, listed.next)
     };
-    if same { Verdict::Same } else { Verdict::List }
+    if same { Ok(()) } else { Err(Differs::List) }
 }
 
-// Says what of a row differs, before the row is named.
-pub fn is_same(rt: &impl Print, verdict: Verdict) -> bool {
-    let _ = match verdict {
-        Verdict::Same => return true,
-        Verdict::Length => rt.print("length "),
-        Verdict::Number => rt.print("number "),
-        Verdict::Value => rt.print("value "),
-        Verdict::Figure => rt.print("figure "),
-        Verdict::List => rt.print("list "),
+// Whether nothing of a row differs; what does is said, before the row is named.
+pub fn is_same(rt: &impl Print, compared: Result<(), Differs>) -> bool {
+    let Err(differs) = compared else {
+        return true;
+    };
+    let _ = match differs {
+        Differs::Length => rt.print("length "),
+        Differs::Number => rt.print("number "),
+        Differs::Value => rt.print("value "),
+        Differs::Figure => rt.print("figure "),
+        Differs::List => rt.print("list "),
     };
     false
 }

@@ -1,7 +1,7 @@
 // Rows run on the areas, one after another.
 ghost use Rattle.std.specs.Prelude.{◌≤◌};
 
-use super::compare::{Verdict, compare, is_same};
+use super::compare::{Differs, compare, is_same};
 use recorded::Tally;
 use recorded_cache::{Answered, Call, KEPT, OFFERS, Row, read_row, run_call};
 
@@ -45,8 +45,8 @@ fn lent_for(row: Row, replay: Replay) -> Replay {
 }
 
 // A refused opening leaves the list before it open.
-fn open_after(row: Row, got: Answered, before: Replay, lent: Replay) -> Replay {
-    if row.call == Some(Call::Open) && got.number != 0 {
+fn open_after(row: Row, got: Option<Answered>, before: Replay, lent: Replay) -> Replay {
+    if row.call == Some(Call::Open) && got.is_none_or(|got| got.number != 0) {
         before
     } else {
         lent
@@ -69,7 +69,13 @@ fn keep_offer(offered: &mut [u64], row: Row, k: u64) {
 }
 
 // Makes the call of a row in the lent part of the areas.
-fn run_lent(words: &mut [u64], bytes: &mut [u8], row: Row, lent: Replay, k: u64) -> Answered {
+fn run_lent(
+    words: &mut [u64],
+    bytes: &mut [u8],
+    row: Row,
+    lent: Replay,
+    k: u64,
+) -> Option<Answered> {
     let w = lent.words.min(words.len());
     let b = lent.bytes.min(bytes.len());
     run_call(&mut words[..w], &mut bytes[..b], row.call, row.args, k)
@@ -81,10 +87,10 @@ fn compare_lent(
     bytes: &[u8],
     line: &[u8],
     row: Row,
-    got: Answered,
+    got: Option<Answered>,
     lent: Replay,
     offered: &[u64],
-) -> Verdict {
+) -> Result<(), Differs> {
     let w = lent.words.min(words.len());
     let b = lent.bytes.min(bytes.len());
     compare(&words[..w], &bytes[..b], line, row, got, offered)
@@ -105,9 +111,9 @@ fn run_row(
     keep_offer(offered, row, before.offers);
     let open = open_after(row, got, before, lent);
     put(offered, OFFERS, open.offers);
-    let verdict = compare_lent(words, bytes, line, row, got, open, offered);
+    let compared = compare_lent(words, bytes, line, row, got, open, offered);
     Replay {
-        tally: open.tally.with_row(rt, is_same(rt, verdict)),
+        tally: open.tally.with_row(rt, is_same(rt, compared)),
         ..open
     }
 }
