@@ -3,20 +3,20 @@
 // excess (0 none, 1 of the values, 2 of the payload) with its configured figure and its attempted sum.
 #![tactic(auto)]
 
-ghost use Rattle.std.specs.Prelude.{◌≡◌};
+ghost use Rattle.std.specs.Prelude.{◌≡◌, [], ◌∷◌};
 ghost use Rattle.output_budget.specs.Budget.{values_of_excess, told_of_exceeded, told_of_reserve};
 ghost use Rattle.output_limits.specs.Limits.{told_of_limits};
 ghost use Rattle.output_pending.specs.Pending.{told_of_materialize};
 ghost use Rattle.budget_words.specs.Words.{exceeded_of, budget_of, words_of, cost_of, preflight_by, report_by};
 ghost use Rattle.budget_words.specs.Words.{Answers};
 
-use answer_numbers::number_of;
+use answer_numbers::{number_of, write_count, write_values};
 use output_budget::{DecodedOutputBudget, DecodedOutputLimit, OutputBudgetExceeded};
 use output_limits::{DecodedOutputLimits, LimitsRefusal};
 use output_pending::PendingOutputError;
 use output_preflight::{FieldValues, PayloadBytes, PendingOutputPreflight, Refusal};
 
-// The recorded excess of three words.
+// The recorded excess of three words. A number is matched: a caller's word can be any, and one of no limit says none.
 fn read_exceeded(which: u64, configured: u64, attempted: u64) -> Option<OutputBudgetExceeded>
     ensures { result ≡ exceeded_of which configured attempted }
 {
@@ -109,6 +109,17 @@ pub fn read_report(success: u32, reported: &[u64; 3]) -> Option<PendingOutputPre
     }
 }
 
+// Three limits as words.
+fn limit_words(accepted: DecodedOutputLimits) -> [u64; 3]
+    ensures { result ≡ accepted.max_records ∷ accepted.max_field_values.0 ∷ accepted.max_field_payload_bytes.0 ∷ [] }
+{
+    [
+        accepted.max_records as u64,
+        accepted.max_field_values.0 as u64,
+        accepted.max_field_payload_bytes.0 as u64,
+    ]
+}
+
 // Answers the number of a limits call, and writes the limits on success.
 pub fn export_limits(
     answer: Result<DecodedOutputLimits, LimitsRefusal>,
@@ -116,17 +127,7 @@ pub fn export_limits(
 ) -> u32
     ensures { Answers (told_of_limits answer) result limits.old limits.new }
 {
-    match answer {
-        Ok(accepted) => {
-            *limits = [
-                accepted.max_records as u64,
-                accepted.max_field_values.0 as u64,
-                accepted.max_field_payload_bytes.0 as u64,
-            ];
-            0
-        }
-        Err(refusal) => u32::from(refusal),
-    }
+    write_values(answer, limits, limit_words)
 }
 
 // Answers the number of a reservation, and writes the excess where it is refused.
@@ -156,11 +157,5 @@ pub fn export_materialize(
 ) -> u32
     ensures { Answers (told_of_materialize answer) result remainder.old remainder.new }
 {
-    match answer {
-        Ok(left) => {
-            *remainder = [left as u64];
-            0
-        }
-        Err(error) => u32::from(error),
-    }
+    write_count(answer, &mut remainder[0])
 }

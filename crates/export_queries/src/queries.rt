@@ -5,6 +5,7 @@ ghost use Rattle.pending_queries.specs.Queries.{accept_answer, figures_answer};
 ghost use Rattle.export_queries.specs.Exports.{Exported, ExportedPlace};
 ghost use Rattle.export_queries.specs.Exports.{ExportsWouldAccept, ExportsFigures, ExportsPlace};
 
+use answer_numbers::write_values;
 use pending_handed_out::{BodyPlace, PlaceRefusal};
 use pending_queries::CacheFigures;
 use table::Damaged;
@@ -13,13 +14,7 @@ use table::Damaged;
 fn export_accepts(answer: Result<bool, Damaged>, accepts: &mut u64) -> u32
     ensures { Exported (accept_answer answer) result (accepts.old ∷ []) (accepts.new ∷ []) }
 {
-    match answer {
-        Ok(yes) => {
-            *accepts = yes as u64;
-            0
-        }
-        Err(damaged) => damaged.into(),
-    }
+    write_values(answer, accepts, |yes| yes as u64)
 }
 
 // Whether an offer would be accepted: 0 with 1 for yes or 0 for no, or 28.
@@ -40,24 +35,26 @@ pub fn would_accept(
     )
 }
 
+// The six figures as words.
+fn figure_words(found: CacheFigures) -> [u64; 6]
+    ensures { result ≡ found.templates ∷ found.bodies ∷ found.bytes ∷ found.cached ∷ found.dropped ∷ found.handed
+        ∷ [] }
+{
+    [
+        found.templates,
+        found.bodies,
+        found.bytes,
+        found.cached,
+        found.dropped,
+        found.handed,
+    ]
+}
+
 // Answers the number, and writes the six figures on success.
 fn export_figures(answer: Result<CacheFigures, Damaged>, figures: &mut [u64; 6]) -> u32
     ensures { Exported (figures_answer answer) result figures.old figures.new }
 {
-    match answer {
-        Ok(found) => {
-            *figures = [
-                found.templates,
-                found.bodies,
-                found.bytes,
-                found.cached,
-                found.dropped,
-                found.handed,
-            ];
-            0
-        }
-        Err(damage) => damage.into(),
-    }
+    write_values(answer, figures, figure_words)
 }
 
 // Templates and bodies held, bytes held, both counters and the bodies handed out: 0 with these, or 28.
@@ -68,17 +65,18 @@ pub fn figures(words: &[u64], bytes: &[u8], figures: &mut [u64; 6]) -> u32
     export_figures(pending_queries::take_figures(words, bytes), figures)
 }
 
+// Place and length as words.
+fn place_words(found: BodyPlace) -> [u64; 2]
+    ensures { result ≡ found.place ∷ found.len ∷ [] }
+{
+    [found.place as u64, found.len as u64]
+}
+
 // Answers the number, and writes place and length on success.
 fn export_place(answer: Result<BodyPlace, PlaceRefusal>, place: &mut [u64; 2]) -> u32
     ensures { ExportedPlace answer result place.old place.new }
 {
-    match answer {
-        Ok(found) => {
-            *place = [found.place as u64, found.len as u64];
-            0
-        }
-        Err(refusal) => refusal.into(),
-    }
+    write_values(answer, place, place_words)
 }
 
 // Where a handed-out body lies in the byte area, and its length: 0 with these, or 28 or 27.

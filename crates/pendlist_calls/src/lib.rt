@@ -11,6 +11,7 @@ ghost use Rattle.pending_offer.specs.Promises.{body_of, offer_answer};
 ghost use Rattle.pending_drain.specs.Promises.{drain_answer};
 ghost use Rattle.pendlist_calls.specs.Steps.{figure_of, row_after, Steps, RunsLine};
 
+use answer_numbers::number_of;
 use config::PendingFlowsConfig;
 use pending_drain::drain;
 use pending_flows::open;
@@ -54,10 +55,7 @@ fn run_open(words: &mut [u64], bytes: &[u8], config: PendingFlowsConfig) -> Outc
 fn offer_figure(answer: Result<(), OfferRefusal>) -> u64
     ensures { result ≡ figure_of (offer_answer answer) }
 {
-    match answer {
-        Ok(()) => 0,
-        Err(refusal) => u32::from(refusal) as u64,
-    }
+    number_of(answer) as u64
 }
 
 // Fills a body and offers it.
