@@ -1,11 +1,14 @@
 -- A move within a list, whole and by blocks, and what it leaves. Assumes nothing.
-use mathlib.Core.Path.{◌≡◌, sym, ap, ◌∙◌}
+use mathlib.Core.Path.{◌≡◌, sym, ◌∙◌}
 use mathlib.Core.List.{List, ◌++◌, append_assoc}
 use Prim.Native.Nat.{ℕ, ◌+◌, ◌-◌, ◌≤◌}
+use native.Mathlib.Nat.{zero-add}
 use native.Mathlib.Omega.{arith}
 use lib.ListN.{length, take, drop, length-drop, take-append-drop}
-use lib.Seq.{paste, paste-zero, take-paste, take-add, drop-drop}
-use borrow.Rule.Slice.PartMut.{mid_of}
+use lib.Seq.{paste, paste-zero, take-paste, take-add, take-take, drop-drop}
+use borrow.Rule.Slice.PartMut.{mid_of, put_mid}
+use Rattle.std.proofs.lemmas.List.{drop-append-le, drop-take, take_rest}
+use Rattle.std.proofs.Common.{take_all}
 use Rattle.areas.specs.Overwrite.{overwritten, put_at, moved}
 use Rattle.areas.proofs.Puts.{drop_more, length_part, length_put, put_there, take_put, drop_put}
 use Rattle.areas.proofs.Puts.{overwritten_whole}
@@ -87,26 +90,47 @@ module _ {X : Type 0} where
         parts_moved (moved from to k xs) front_moved (unmoved (from + k) (omega arith))
         (unmoved (to + k + n) (omega arith))
 
-  -- a block that is read whole, and then written
-  pub block_moved : (from to : ℕ) (area area' block block' : List X) → from + length block ≤ length area →
-      block' ≡ overwritten block (mid_of from (from + length block - from) area) → area' ≡ put_at to block' area →
-      area' ≡ moved from to (length block) area
-  block_moved from to area area' block block' source read written =
-      let len = length block in
-      let part = take len (drop from area) in
-      let all : from + len - from ≡ len = omega arith in
-      let whole : block' ≡ part =
-      read ∙ rw all (overwritten_whole block part (sym (length_part from len area source)))
+  -- a block that is read whole, and then written to the front
+  pub block_moved : (by : ℕ) (part part' block block' : List X) → by + length block ≡ length part →
+      block' ≡ overwritten block (take (length part - by) (drop by part)) → part' ≡ overwritten part block' →
+      part' ≡ moved by 0 (length block) part
+  unfolding overwritten moved
+  block_moved by part part' block block' e read written =
+      let n = length-drop by part in
+      let k : length block ≡ length (drop by part) = omega arith in
+      let whole : block' ≡ drop by part = read ∙ rw (take_rest part by) (overwritten_whole block (drop by part) k) in
+      written ∙ rw (whole, k, take_all (length (drop by part)) (drop by part) (omega arith), zero-add)
+
+  -- a part of a list whose end moves to its front
+  pub part_moved : (to by n k : ℕ) (xs part : List X) → k ≡ by + n → to + k ≤ length xs →
+      part ≡ moved by 0 n (mid_of to k xs) → put_mid to k xs part ≡ moved (to + by) to n xs
+  unfolding moved
+  part_moved to by n k xs part e h is =
+      let l = drop to xs in
+      let len = length_part to k xs h in
+      let behind : drop n (take k l) ++ drop k l ≡ drop (to + n) xs =
+      sym (drop-append-le n (take k l) (drop k l) (omega arith)) ∙ rw (take-append-drop k l) (drop-drop n to xs)
       in
-      written ∙ rw whole (sym (moved_puts from to len area source))
+      let front : take n (drop by (take k l)) ≡ take n (drop (to + by) xs) =
+      rw (e, drop-take by n l, drop-drop by to xs) (take-take n n (drop (to + by) xs) (omega arith))
+      in
+      rw (is, zero-add, append_assoc, behind, front)
 
   -- a part that moves behind the one that moved
-  pub moved_further : (from to k n all : ℕ) (xs xs' xs'' : List X) → xs'' ≡ moved (from + k) (to + k) n xs' →
-      xs' ≡ moved from to k xs → to ≤ from → from + all ≤ length xs → k + n ≤ all → all ≤ k + n →
-      xs'' ≡ moved from to all xs
-  moved_further from to k n all xs xs' xs'' e e' down source le ge =
+  pub moved_further : (from to k n m all : ℕ) (xs xs' part : List X) →
+      part ≡ moved (from - to) 0 (length (mid_of (to + k) m xs') - (from - to)) (mid_of (to + k) m xs') →
+      m ≡ from + k + n - (to + k) → xs' ≡ moved from to k xs → to ≤ from → from + all ≤ length xs → k + n ≤ all →
+      all ≤ k + n → put_mid (to + k) m xs' part ≡ moved from to all xs
+  moved_further from to k n m all xs xs' part is e e' down source le ge =
       let whole : k + n ≡ all = omega arith in
-      e ∙ ap (moved (from + k) (to + k) n) e' ∙ moved_on from to k n xs down (omega arith) ∙ rw whole
+      let there : to + k + (from - to) ≡ from + k = omega arith in
+      let size : m ≡ from - to + n = omega arith in
+      let kept : length xs' ≡ length xs = rw e' (length_moved from to k xs (omega arith) (omega arith)) in
+      let rest : length (mid_of (to + k) m xs') - (from - to) ≡ n =
+      omega (arith, length_part (to + k) m xs' (omega arith))
+      in
+      part_moved (to + k) (from - to) n m xs' part size (omega arith) (rw rest at is)
+      ∙ rw (there, e', moved_on from to k n xs down (omega arith), whole)
 
 -- what moves to a lower place by blocks stand on
 pub ruleset down = (moved_to_itself, moved_none, moved_further)

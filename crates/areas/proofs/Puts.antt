@@ -1,21 +1,16 @@
 -- A list put into the place of as many elements of a longer one, and a copy into a part that is lent.
 -- Assumes nothing.
 use mathlib.Core.Path.{◌≡◌, refl, sym, ap, ◌∙◌}
-use mathlib.Core.List.{List, [], ◌∷◌, ◌++◌, append_assoc, append-nil}
-use Prim.Native.Nat.{ℕ, zero, suc, ◌+◌, ◌-◌, ◌≤◌}
-use native.Mathlib.Nat.{zero-add, suc-add}
+use mathlib.Core.List.{List, ◌++◌, append_assoc, append-nil}
+use Prim.Native.Nat.{ℕ, ◌+◌, ◌-◌, ◌≤◌}
 use native.Mathlib.Omega.{arith}
 use lib.ListN.{length, take, drop, length-append, length-drop}
-use lib.Seq.{take-take, take_at, drop_at, drop-drop, drop-length, length-take-le, take-nil}
+use lib.Seq.{take-take, take_at, drop_at, drop-drop, drop-length, length-take-le}
+use Rattle.std.proofs.lemmas.List.{drop-take}
 use borrow.Rule.Slice.PartMut.{mid_of, put_mid}
 use Rattle.areas.specs.Overwrite.{overwritten, put_at}
 
 module _ {X : Type 0} where
-  drop_take : (p k : ℕ) (l : List X) → drop p (take (p + k) l) ≡ take k (drop p l)
-  drop_take zero k l = rw zero-add
-  drop_take (suc p) k [] = rw (suc-add, take-nil)
-  drop_take (suc p) k (x ∷ l) = rw suc-add (drop_take p k l)
-
   -- less of the same
   pub take_less : (m n : ℕ) (l l' : List X) → m ≤ n → take n l ≡ take n l' → take m l ≡ take m l'
   take_less m n l l' h e = sym (take-take m n l h) ∙ ap (take m) e ∙ take-take m n l' h
@@ -30,9 +25,9 @@ module _ {X : Type 0} where
   pub part_same : (m p k : ℕ) (l l' : List X) → take m l ≡ take m l' → p + k ≤ m →
       take k (drop p l) ≡ take k (drop p l')
   part_same m p k l l' e h =
-      sym (drop_take p k l)
+      sym (drop-take p k l)
       ∙ ap (drop p) (take_less (p + k) m l l' h e)
-      ∙ drop_take p k l'
+      ∙ drop-take p k l'
 
   pub length_part : (at n : ℕ) (xs : List X) → at + n ≤ length xs → length (take n (drop at xs)) ≡ n
   length_part at n xs h = length-take-le n (drop at xs) (omega (arith, length-drop at xs))

@@ -1,8 +1,8 @@
 // Moving within an area.
-ghost use Rattle.std.specs.Prelude.{◌≡◌, ◌+◌, ◌≤◌, ◌<◌, length};
+ghost use Rattle.std.specs.Prelude.{◌≡◌, ◌+◌, ◌-◌, ◌≤◌, ◌<◌, length};
 ghost use Rattle.areas.specs.Overwrite.{moved};
 
-use crate::copying::{copy_to_front, write_at};
+use crate::copying::copy_to_front;
 
 // The most bytes that are read before the first of them is written.
 const BLOCK: usize = 2048;
@@ -23,17 +23,16 @@ pub fn move_within<T: Copy>(area: &mut [T], from: usize, to: usize, len: usize)
     area.copy_within(from..from + len, to);
 }
 
-// Moves as many bytes as `block` holds. All are read before the first is written, so source and target may overlap;
-// and of both copies, with a local array for `block`, the compiler makes one call of the C library's `memmove`, with no
-// array, where the array is long (docs/DECISIONS.md).
+// Moves what stands behind the first `by` bytes of a part to its front: as many bytes as `block` holds. All are read
+// before the first is written, so source and target may overlap; and of both copies, with a local array for `block`,
+// the compiler makes one call of the C library's `memmove`, with no array, where the array is long (docs/DECISIONS.md).
 #[tactic(auto, using(crate::proofs::Moves::block_moved))]
-fn move_through(area: &mut [u8], from: usize, to: usize, block: &mut [u8])
-    requires { (from + length block.old ≤ length area.old) × (to + length block.old ≤ length area.old) }
-    ensures { area.new ≡ moved from to (length block.old) area.old }
+fn move_through(part: &mut [u8], by: usize, block: &mut [u8])
+    requires { by + length block.old ≡ length part.old }
+    ensures { part.new ≡ moved by 0 (length block.old) part.old }
 {
-    let end = from + block.len();
-    copy_to_front(block, &area[from..end]);
-    write_at(area, to, block);
+    copy_to_front(block, &part[by..]);
+    copy_to_front(part, block);
 }
 
 // How many bytes a move within an area of so many reads at once. Any number that an array holds would do, so none is
@@ -47,13 +46,14 @@ fn block_in(area: usize) -> usize
     BLOCK
 }
 
-// Moves a block or less.
-fn move_block(area: &mut [u8], from: usize, to: usize, len: usize)
-    requires { (from + len ≤ length area.old) × (to + len ≤ length area.old) × (len ≤ 2048) }
-    ensures { area.new ≡ moved from to len area.old }
+// Moves what stands behind the first `by` bytes of a part to its front: a block or less.
+fn move_block(part: &mut [u8], by: usize)
+    requires { (by ≤ length part.old) × (length part.old ≤ by + 2048) }
+    ensures { part.new ≡ moved by 0 (length part.old - by) part.old }
 {
     let mut block: [u8; BLOCK] = [0; BLOCK];
-    move_through(area, from, to, &mut block[..len]);
+    let len = part.len() - by;
+    move_through(part, by, &mut block[..len]);
 }
 
 // Moves `len` bytes to a lower place: from the front, so that a block is read before it is overwritten. To the same
@@ -69,6 +69,7 @@ pub fn move_bytes_down(area: &mut [u8], from: usize, to: usize, len: usize)
     }
     let block = block_in(area.len());
     for done in (0..len).step_by(block) {
-        move_block(area, from + done, to + done, block.min(len - done));
+        let end = from + done + block.min(len - done);
+        move_block(&mut area[to + done..end], from - to);
     }
 }

@@ -10,6 +10,7 @@ fn age_at(now: u64, clock: u64) -> u64
 }
 
 // Whether a body with this clock reading is expired now.
+// The TTL and the reading of now apart, here and above: one is a limit of the cache, the other comes with a call.
 pub fn is_expired(ttl: Option<u64>, now: u64, clock: u64) -> bool
     ensures { result ≡ expired_at ttl now clock }
 {

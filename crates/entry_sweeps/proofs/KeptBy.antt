@@ -26,7 +26,7 @@ other_than label e = not (eqb label e.label)
 -- by a TTL of 0 every body is expired: of the aged label none stays
 module _ (now label most : ℕ) where
   abbrev pub zero_ttl : StayTest
-  zero_ttl = record { ttl = Some 0; clock = now; all = false; label = label; max_size = most }
+  zero_ttl = record { ttl = Some 0; clock = now; only = Some label; max_size = most }
 
   zero_stays : (e : Entry) → e.len ≤ most → stays zero_ttl e ≡ other_than label e
   unfolding stays

@@ -1,11 +1,9 @@
 // The sweep by a test on each entry alone that packs in the same pass: the bodies of those that stay move together.
-ghost use Rattle.std.specs.Prelude.{◌≡◌, ◌+◌, ◌*◌, ◌≤◌, true, length};
-ghost use Rattle.config.specs.Limits.{entry_words};
+ghost use Rattle.std.specs.Prelude.{length};
 ghost use Rattle.table.specs.Layout.{entries_at};
 ghost use Rattle.table.specs.Table.{entries_from};
-ghost use Rattle.table.specs.WellFormed.{places_legal};
 ghost use Rattle.table_entries.specs.Stays.{stays};
-ghost use Rattle.table_entries.specs.Pack.{KeepsPacked};
+ghost use Rattle.table_entries.specs.Pack.{HoldsEntries, KeepsPacked};
 ghost use Rattle.entry_sweeps.specs.KeptBy.{kept_by};
 
 use config::{ENTRY_WORDS, HEADER_WORDS};
@@ -16,8 +14,7 @@ use table_entries::{Kept, Run, StayTest, move_run, put_entry, run_up_to, stays};
 // A loop of its own, beside the other sweep's: the bodies move in the same pass, and another promise is kept.
 // The words and how many entries, no parts: `as_chunks_mut` says nothing of what the words end as.
 pub fn sweep_packing(words: &mut [u64], bytes: &mut [u8], entries: usize, test: StayTest) -> Kept
-    requires { (entries_at + entry_words * entries ≤ length words.old) × (places_legal 0 (length bytes.old)
-        (entries_from words.old entries_at entries) ≡ true) }
+    requires { HoldsEntries entries words.old (length bytes.old) }
     ensures { KeepsPacked (kept_by (stays test) (entries_from words.old entries_at entries)) entries
         words.old bytes.old words.new bytes.new result.entries result.bytes }
 {

@@ -37,12 +37,13 @@ use Rattle.table_view.proofs.Closed.{templates_take, templates_drop}
 use Rattle.table_view.proofs.AllStay.{none_skipped, all_stay, unaged_stay}
 use Rattle.offer_plan.specs.declared.plan.OfferPlan.{OfferPlan}
 use Rattle.offer_plan.specs.declared.plan.Decision.{Decision}
-use Rattle.offer_plan.specs.Plan.{live_test, live_bodies, live_at, Decides, NothingGoes, none_expires}
+use Rattle.offer_plan.specs.Plan.{live_test, live_bodies, live_at, is_full, all_expire, for_room, Decides}
+use Rattle.offer_plan.specs.Plan.{NothingGoes, none_expires}
 use Rattle.offer_plan.specs.Plan.{plan_test, skip_of, KeepsAll, NoneExpired, Plans}
 use Rattle.offer_plan.proofs.RecordReads.{Counted, here_read, others_read, alive_read, first_read}
 use Rattle.offer_plan.proofs.Labels.{all_take, all_drop, Alike}
 use Rattle.offer_plan.proofs.Labels.{alike, has_alike}
-use Rattle.offer_plan.proofs.Sums.{keep_unaged, all_skipped}
+use Rattle.offer_plan.proofs.Sums.{aged_planned, keep_unaged, all_skipped}
 use Rattle.offer_plan.proofs.Live.{all_found, record_keyed, count_is, seen_is, label_fresh}
 use Rattle.offer_plan.proofs.Skips.{none_set, held_skipped, all_handed_skipped}
 use Rattle.offer_plan.proofs.Tables.{rows, labels_small, within, short, entries_few, some_templates}
@@ -132,13 +133,13 @@ module _ (w b : List ℕ) (id len clock : ℕ) where
         ∙ ap (λ (m : ℕ). thin_at m (plan_at (drop m ts)) j bs) (over_is x e)
         ∙ ap (λ (p : Plan). thin_at n p j bs) plan_read_lem
 
-    verdict_is : plan_read.verdict ≡ cond d.full (refused 20) accepted
+    verdict_is : plan_read.verdict ≡ cond (is_full d) (refused 20) accepted
     unfolding plan_of
     verdict_is =
         sym (ap (λ (t : Bool). cond t (refused 20) accepted) decided.full
         ∙ cond_and (ltb 0 here) (leb l.max_entries_per_template here) (refused 20) accepted)
 
-    all_is : plan_read.all ≡ d.all
+    all_is : plan_read.all ≡ all_expire d
     unfolding plan_of
     all_is =
         sym (decided.all ∙ ap (λ (t : Bool). not (ltb 0 here) && t)
@@ -146,7 +147,7 @@ module _ (w b : List ℕ) (id len clock : ℕ) where
 
     -- whether the least recent live template goes too
     abbrev goes : Bool
-    goes = d.all && leb l.max_pending_flows (live_records live stay)
+    goes = all_expire d && leb l.max_pending_flows (live_records live stay)
 
     first_is : plan_read.first ≡ goes
     unfolding plan_of
@@ -161,31 +162,31 @@ module _ (w b : List ℕ) (id len clock : ℕ) where
         by_test false e = refl
         by_test true e =
             let many = leb-true l.max_pending_flows (live_records live stay)
-            (and_right d.all (leb l.max_pending_flows (live_records live stay)) e) in
+            (and_right (all_expire d) (leb l.max_pending_flows (live_records live stay)) e) in
             first_read b es (λ x. not (old x)) live (λ k j. eqb u.label k ≡ eqb u.key j) stay stay_counted a
             (omega (arith, some_templates w b ok))
 
     module _ (label : Option ℕ) (labelled : label ≡ label_of id held) (v : Bool)
-        (t : Bool) (certain : v ≡ true → NothingGoes n (chance_count w) d.all t) (m : ℕ)
-        (seen : m ≡ live_bodies w id clock) (unaged : t ≡ none_expires l.ttl d.all (count_of id held) m) where
+        (t : Bool) (certain : v ≡ true → NothingGoes n (chance_count w) (all_expire d) t) (m : ℕ)
+        (seen : m ≡ live_bodies w id clock) (unaged : t ≡ none_expires l.ttl (all_expire d) (count_of id held) m) where
       abbrev made : OfferPlan
       made = record {
-        full = d.full;
+        full = is_full d;
         label = label;
-        all = d.all;
+        all = all_expire d;
         none = v;
         none_expired = t;
         evicted = n;
-        first = d.first;
+        first = for_room d;
       }
 
       abbrev leaving : List TemplateRecord
       leaving = take n held
 
       -- the label that is evicted for room, where one is
-      first_told : (k : ℕ) → k < 1024 → eqb k (label_or_none d.first) ≡ goes && eqb k (first_live live stay)
+      first_told : (k : ℕ) → k < 1024 → eqb k (label_or_none (for_room d)) ≡ goes && eqb k (first_live live stay)
       first_told k small =
-          rw decided.first (by_tests d.all (leb l.max_pending_flows (live_records live stay)))
+          rw decided.first (by_tests (all_expire d) (leb l.max_pending_flows (live_records live stay)))
         where
           none : eqb k 1024 ≡ false
           none = ne_eqb k 1024 (λ e. omega arith)
@@ -211,7 +212,7 @@ module _ (w b : List ℕ) (id len clock : ℕ) where
       unfolding skip_of
       told_thins u t =
           rw (
-            held_skipped leaving (table_of w).handed (label_or_none d.first) u.label t.small t.apart,
+            held_skipped leaving (table_of w).handed (label_or_none (for_room d)) u.label t.small t.apart,
             first_told u.label t.small,
             has_alike b es u leaving (all_take (Alike u) n held t.others),
             templates_take b es n held,
@@ -228,13 +229,14 @@ module _ (w b : List ℕ) (id len clock : ℕ) where
           bs = bodies_at b u.label es
 
           by_tests : (g f : Bool) → drop (cond f skip_all (cond g skip_all 0)) (keep (body_stays q u.label) bs)
-              ≡ cond g [] (cond f [] (keep (λ x. not ((d.all || eqb id u.key) && old x)) bs))
+              ≡ cond g [] (cond f [] (keep (λ x. not ((all_expire d || eqb id u.key) && old x)) bs))
           by_tests true true = all_skipped b u.label q skip_all es (within w b ok) (entries_few w b ok)
           by_tests true false = all_skipped b u.label q skip_all es (within w b ok) (entries_few w b ok)
           by_tests false true = all_skipped b u.label q skip_all es (within w b ok) (entries_few w b ok)
           by_tests false false =
               keep_unaged b u.label q es (within w b ok) (short w b ok)
-              ∙ ap (λ (s : Bool). keep (λ x. not ((d.all || s) && old x)) bs) t.named
+              ∙ ap (λ (s : Bool). keep (λ x. not (s && old x)) bs) (aged_planned (all_expire d) _ u.label)
+              ∙ ap (λ (s : Bool). keep (λ x. not ((all_expire d || s) && old x)) bs) t.named
 
       held_told : All Told held
       held_told =
@@ -263,10 +265,10 @@ module _ (w b : List ℕ) (id len clock : ℕ) where
           )
 
       -- where nothing goes, nothing is skipped
-      skips_none : NothingGoes n (chance_count w) d.all t → skip_of w made ≡ zeros
+      skips_none : NothingGoes n (chance_count w) (all_expire d) t → skip_of w made ≡ zeros
       unfolding skip_of set_each records_from
       skips_none none =
-          let no-first : d.first ≡ None = decided.first ∙ rw none.one_id in
+          let no-first : for_room d ≡ None = decided.first ∙ rw none.one_id in
           rw (no-first, none.evicts_none, ← handed_are w b ok, none.hands_none) none_set
 
       small : All (λ x. x.label < 1024) es
@@ -275,13 +277,13 @@ module _ (w b : List ℕ) (id len clock : ℕ) where
           entries_small (held ++ (table_of w).handed) es tied.labels_small tied.labels_known
 
       -- where only the id's bodies are aged, and all of them are live
-      fresh_stay : d.all ≡ false → live_at live (label_of id held) ≡ count_of id held →
+      fresh_stay : all_expire d ≡ false → live_at live (label_of id held) ≡ count_of id held →
           All (λ x. stays (plan_test l clock made) x ≡ true) es
       fresh_stay one counts =
           let fresh =
           subst (λ (k : Option ℕ). All (λ x. eqb (label_or_none k) x.label && expired_at l.ttl clock x.clock ≡ false) es)
           (sym labelled) (label_fresh (held_read w b ok clock) id small counts) in
-          all_stay (plan_test l clock made) es one fresh (short w b ok)
+          all_stay (plan_test l clock made) es (rw one fresh) (short w b ok)
 
       -- as many are live as the id's record counts
       own_counts : count_of id held ≡ m → live_at live (label_of id held) ≡ count_of id held
@@ -297,12 +299,12 @@ module _ (w b : List ℕ) (id len clock : ℕ) where
       unfolding none_expires
       none_expired_here e = by_ttl l.ttl refl (sym unaged ∙ e)
         where
-          by_ttl : (ttl : Option ℕ) → l.ttl ≡ ttl → none_expires ttl d.all (count_of id held) m ≡ true →
+          by_ttl : (ttl : Option ℕ) → l.ttl ≡ ttl → none_expires ttl (all_expire d) (count_of id held) m ≡ true →
               All (λ x. stays (plan_test l clock made) x ≡ true) es
           by_ttl None is h = unaged_stay (plan_test l clock made) es is (short w b ok)
           by_ttl (Some limit) is h =
-              fresh_stay (not-true d.all (and_left (not d.all) (eqb (count_of id held) m) h))
-              (own_counts (eqb-true (count_of id held) m (and_right (not d.all) (eqb (count_of id held) m) h)))
+              fresh_stay (not-true (all_expire d) (and_left (not (all_expire d)) (eqb (count_of id held) m) h))
+              (own_counts (eqb-true (count_of id held) m (and_right (not (all_expire d)) (eqb (count_of id held) m) h)))
 
       all_kept : KeepsAll w clock made
       all_kept e =
@@ -320,7 +322,7 @@ module _ (w b : List ℕ) (id len clock : ℕ) where
             thins = λ x e.
                 all_map Told _ (λ u t. told_thins u t ∙ sym (thin_is x e u.key (bodies_at b u.label es)))
                 held held_told;
-            ends_chance = all_handed_skipped leaving handed (label_or_none d.first)
+            ends_chance = all_handed_skipped leaving handed (label_or_none (for_room d))
                 (all_back (λ u. u.label < 1024) held handed (rows w b ok).labels_small);
             few = few;
             keeps_all = all_kept;

@@ -7,7 +7,7 @@ use Prim.Native.Nat.{ℕ, ◌+◌, ◌*◌, ◌-◌, ◌≤◌, ◌<◌}
 use native.Mathlib.Omega.{arith}
 use lib.Dec.{leb, ltb}
 use lib.ListN.{length, get_or}
-use borrow.Author.Tests.{leb-true, lt-ltb, le-ltb}
+use borrow.Author.Tests.{leb-true, lt-ltb, le-ltb, le-leb, lt-leb}
 use Rattle.std.proofs.lemmas.Bool.{false≢true}
 use Rattle.config.specs.declared.PendingFlowsConfig.{PendingFlowsConfig}
 use Rattle.config.specs.Limits.{record_words, entry_words, max_bodies}
@@ -34,6 +34,7 @@ use Rattle.pending_flows.specs.View.{cache_of, templates_at}
 use Rattle.pending_flows.proofs.Questions as Questions
 use Rattle.table_view.proofs.AllStay.{all_live}
 use Rattle.table_view.proofs.Swept.{Within}
+use Rattle.offer_plan.specs.declared.plan.Decision.{Decision}
 use Rattle.offer_plan.specs.Plan.{live_test, lens_of, first_reaches, live_sums, live_found, LiveSeen, LiveRead}
 use Rattle.offer_plan.specs.Plan.{live_at, others_fill, first_evicted, first_of_full, Decides}
 use Rattle.offer_plan.proofs.RecordReads.{evictions_read, none_evicted, first_size, one_evicted}
@@ -102,12 +103,17 @@ module _ (l : PendingFlowsConfig) (id clock : ℕ) (es : List Entry) (parts : Li
     here : live_at live (label_of id rs) ≡ h
     here = sym (read ∙ seen_is reads id found m seen)
 
-    pub held_decided : 0 < h →
-        Decides l id live rs
-        (record { full = leb l.max_entries_per_template h; all = false; first = None })
-    held_decided some =
+    pub full_decided : 0 < h → l.max_entries_per_template ≤ h → Decides l id live rs Decision.Full
+    full_decided some cap =
         let tested : ltb 0 h ≡ true = lt-ltb 0 h some in
-        record { full = rw (here, tested); all = rw (here, tested); first = refl }
+        let capped : leb l.max_entries_per_template h ≡ true = le-leb l.max_entries_per_template h cap in
+        record { full = rw (here, tested, capped); all = rw (here, tested); first = refl }
+
+    pub held_decided : 0 < h → h < l.max_entries_per_template → Decides l id live rs Decision.Room
+    held_decided some below =
+        let tested : ltb 0 h ≡ true = lt-ltb 0 h some in
+        let capped : leb l.max_entries_per_template h ≡ false = lt-leb l.max_entries_per_template h below in
+        record { full = rw (here, tested, capped); all = rw (here, tested); first = refl }
 
     module _ (none : h ≤ 0) (t : Bool) (tested : t ≡ others_fill (label_in x) (length parts) l.max_pending_flows) where
       no_bodies : ltb 0 h ≡ false
@@ -117,7 +123,7 @@ module _ (l : PendingFlowsConfig) (id clock : ℕ) (es : List Entry) (parts : Li
       filled = rw (as_many template_of parts, ← label_is reads id found) (sym tested)
 
       pub new_decided : t ≡ false →
-          Decides l id live rs (record { full = false; all = false; first = None })
+          Decides l id live rs Decision.Room
       new_decided e = record {
         full = rw (here, no_bodies);
         all = rw (here, no_bodies, filled, e);
@@ -125,7 +131,7 @@ module _ (l : PendingFlowsConfig) (id clock : ℕ) (es : List Entry) (parts : Li
       }
 
       pub new_full_decided : (k : Option ℕ) → t ≡ true → k ≡ first_evicted l.max_pending_flows live rs →
-          Decides l id live rs (record { full = false; all = true; first = k })
+          Decides l id live rs (Decision.NoRoom k)
       new_full_decided k e oldest = record {
         full = rw (here, no_bodies);
         all = rw (here, no_bodies, filled, e);
@@ -177,12 +183,12 @@ module _ (w b : List ℕ) {h : Header} (holds : HoldsCache h w (length b)) where
       held_rows =
           templates ∙ rw (holds.figures, from ∙ ap records_at holds.limits) (held_are w b ok)
 
-      pub room_made : (n : ℕ) →
-          n ≡ evictions_of (l.max_total_bytes - len) (summed (live_test None 0) true zeros (entries_of parts)) f.total
+      pub room_made : (n room : ℕ) → room ≡ l.max_total_bytes - len →
+          n ≡ evictions_of room (summed (live_test None 0) true zeros (entries_of parts)) f.total
           (templates_of rows) →
           n ≡ evictions l.max_total_bytes len (cache_of (table_of w) b).held
-      room_made n evicted =
-          evicted ∙ rw (entries_are, held_rows, holds.figures)
+      room_made n room left evicted =
+          evicted ∙ rw (left, entries_are, held_rows, holds.figures)
           (evictions_read b (table_of w).entries l.max_total_bytes len _ _ (table_of w).held fits
           (held_sized w b ok 0) (total_held w b ok))
 

@@ -1,7 +1,7 @@
 -- The sums by label that an offer takes: the bytes of each label's bodies, and its live bodies. Assumes nothing.
-use Rattle.std.proofs.Common.{Option, None}
-use mathlib.Core.Path.{◌≡◌, ap, ◌∙◌}
-use mathlib.Core.Bool.{Bool, true, false, not, ◌&&◌, ◌||◌, and-true}
+use Rattle.std.proofs.Common.{Option, Some, None}
+use mathlib.Core.Path.{◌≡◌, refl, ap, ◌∙◌}
+use mathlib.Core.Bool.{Bool, true, false, not, ◌&&◌, ◌||◌, cond, and-true}
 use mathlib.Core.List.{List, []}
 use Prim.Native.Nat.{ℕ, ◌≤◌, ◌<◌}
 use native.Mathlib.Omega.{arith}
@@ -12,6 +12,7 @@ use Rattle.config.proofs.Lists.{All, all_both}
 use Rattle.table.specs.declared.Entry.{Entry}
 use Rattle.table.proofs.Facts.{Placed}
 use Rattle.table_entries.specs.declared.StayTest.{StayTest}
+use Rattle.table_entries.specs.Stays.{is_aged}
 use Rattle.table_entries.specs.Sums.{sum_most, summed}
 use Rattle.table_entries.proofs.LabelSums.{zeros, summed_label}
 use Rattle.table_entries.proofs.Lengths.{label_bytes_most, label_count_most}
@@ -23,9 +24,14 @@ use Rattle.table_view.proofs.Summed.{label_bytes, label_count}
 use Rattle.table_view.proofs.Summed.{summed_count}
 use Rattle.offer_plan.specs.Plan.{live_test}
 
+-- which labels are aged by a plan: all, or the one
+pub aged_planned : (t : Bool) (only k : ℕ) → is_aged (cond t None (Some only)) k ≡ t || eqb only k
+aged_planned true only k = refl
+aged_planned false only k = refl
+
 -- whether a body of a label is not expired, or not of an aged label
 abbrev pub unaged : StayTest → ℕ → Body → Bool
-unaged q k x = not ((q.all || eqb q.label k) && expired q.ttl q.clock x)
+unaged q k x = not (is_aged q.only k && expired q.ttl q.clock x)
 
 module _ (b : List ℕ) (k : ℕ) where
   -- where no body is too large, only expired ones go

@@ -27,8 +27,7 @@ abbrev pub live_test : Option ℕ → ℕ → StayTest
 live_test ttl clock = record {
   ttl = ttl;
   clock = clock;
-  all = true;
-  label = 1024;
+  only = None;
   max_size = 18446744073709551615;
 }
 
@@ -89,14 +88,31 @@ first_evicted most live rs = cond (leb most (live_records live rs)) (label_of_fi
 abbrev pub first_of_full : ℕ → List TemplateRecord → Option ℕ
 first_of_full most rs = cond (leb most (length rs)) (label_of_first rs) None
 
+-- what a decision says of the plan: whether the template is full, whether expired bodies of all ids go, and the label
+-- of the template that goes for room, if one does
+abbrev pub is_full : Decision → Bool
+is_full Decision.Full = true
+is_full Decision.Room = false
+is_full (Decision.NoRoom first) = false
+
+abbrev pub all_expire : Decision → Bool
+all_expire Decision.Full = false
+all_expire Decision.Room = false
+all_expire (Decision.NoRoom first) = true
+
+abbrev pub for_room : Decision → Option ℕ
+for_room Decision.Full = None
+for_room Decision.Room = None
+for_room (Decision.NoRoom first) = first
+
 -- The decision on the records that step 2 leaves, where `live` has the live bodies of each label.
 pub record Decides (l : PendingFlowsConfig) (id : ℕ) (live : List ℕ) (rs : List TemplateRecord) (r : Decision) : Type 0
   where
-    pub full : r.full ≡ ltb 0 (live_at live (label_of id rs)) &&
+    pub full : is_full r ≡ ltb 0 (live_at live (label_of id rs)) &&
         leb l.max_entries_per_template (live_at live (label_of id rs))
-    pub all : r.all ≡ not (ltb 0 (live_at live (label_of id rs))) &&
+    pub all : all_expire r ≡ not (ltb 0 (live_at live (label_of id rs))) &&
         others_fill (label_of id rs) (length rs) l.max_pending_flows
-    pub first : r.first ≡ cond r.all (first_evicted l.max_pending_flows live rs) None
+    pub first : for_room r ≡ cond (all_expire r) (first_evicted l.max_pending_flows live rs) None
 
 -- no template goes for its bytes, nothing is handed out, only the id's bodies can go as expired, and none does
 pub record NothingGoes (evicted chance : ℕ) (all unaged : Bool) : Type 0 where
@@ -116,8 +132,7 @@ abbrev pub plan_test : PendingFlowsConfig → ℕ → OfferPlan → StayTest
 plan_test l clock r = record {
   ttl = l.ttl;
   clock = clock;
-  all = r.all;
-  label = label_or_none r.label;
+  only = cond r.all None (Some (label_or_none r.label));
   max_size = 18446744073709551615;
 }
 

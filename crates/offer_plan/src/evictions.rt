@@ -1,5 +1,6 @@
 // How many least recent templates an offer evicts for its bytes: step 2.
-ghost use Rattle.std.specs.Prelude.{None, true, ◌≡◌, ◌-◌, ◌≤◌, leb, length, replicate};
+// Both areas are given, also where the words alone are read: what is asked is that the two hold a cache.
+ghost use Rattle.std.specs.Prelude.{None, true, ◌≡◌, ◌≤◌, leb, length, replicate};
 ghost use Rattle.table.specs.Table.{table_of};
 ghost use Rattle.table.specs.Parts.{entries_of, templates_of};
 ghost use Rattle.table_entries.specs.Sums.{summed};
@@ -9,10 +10,9 @@ ghost use Rattle.pending_flows.specs.Header.{HoldsCache};
 ghost use Rattle.pending_flows.specs.View.{cache_of};
 ghost use Rattle.offer_plan.specs.Plan.{live_test, lens_of, first_reaches};
 
-use super::live_tests::live_test;
 use config::{ENTRY_WORDS, RECORD_WORDS};
 use pending_flows::Header;
-use table::{LABELS, entries_in, entry_of, first_label, records_at, records_in};
+use table::{LABELS, entry_of, first_label};
 use table_entries::sums_by_label;
 use table_records::evictions_of;
 
@@ -49,28 +49,27 @@ fn first_reaches(
     label_reaches(entries, label, least)
 }
 
-// How many least recent templates go until a body of this length fits, by the bytes of each label.
+// How many least recent templates go until the others' bytes are at most `room`, by the bytes of each label.
+// `skip_total` of resize_steps counts so too: neither crate needs the other, and the only crate below that has all
+// that it takes is one of laws.
 fn evictions_by_sizes(
-    header: Header,
     entries: &[[u64; ENTRY_WORDS]],
     records: &[[u64; RECORD_WORDS]],
-    len: usize,
+    total: u64,
+    room: u64,
 ) -> usize
-    requires { len ≤ header.limits.max_total_bytes }
-    ensures { result ≡ evictions_of (header.limits.max_total_bytes - len) (summed (live_test None 0) true (replicate 1024 0)
-        (entries_of entries.now)) header.figures.total (templates_of records.now) }
+    ensures { result ≡ evictions_of room (summed (live_test None 0) true (replicate 1024 0) (entries_of entries.now))
+        total (templates_of records.now) }
 {
-    let Header { limits, figures } = header;
-    let room = (limits.max_total_bytes - len) as u64;
-    // expired bodies count: they go after this step, and with no time to live none is expired
-    let ttl = None;
+    // expired bodies count: they go after this step
     let mut sizes = [0u32; LABELS];
-    sums_by_label(entries, live_test(ttl, 0), true, &mut sizes);
-    evictions_of(records, room, figures.total, &sizes)
+    sums_by_label(entries, |entry| Some(entry.len), &mut sizes);
+    evictions_of(records, room, total, &sizes)
 }
 
 // Step 2: how many least recent templates go until a body of this length fits. Where that is none or one, no
 // array is needed; where the first body of the least recent template makes room, the pass over the entries ends there.
+// The clause on the length: beyond the total every template goes, also one whose bodies have no bytes.
 pub fn evictions_for(words: &[u64], bytes: &[u8], header: Header, len: usize) -> usize
     requires header_value { HoldsCache header words.now (length bytes.now) }
     requires len_value { len ≤ header.limits.max_total_bytes }
@@ -82,10 +81,10 @@ pub fn evictions_for(words: &[u64], bytes: &[u8], header: Header, len: usize) ->
     if figures.total <= room {
         return 0;
     }
-    let entries = entries_in(words, figures.entries as usize);
-    let records = records_in(words, records_at(limits), figures.templates as usize);
+    let entries = header.entries(words);
+    let (records, _) = header.templates(words);
     if first_reaches(entries, records, figures.total - room) {
         return 1;
     }
-    evictions_by_sizes(header, entries, records, len)
+    evictions_by_sizes(entries, records, figures.total, room)
 }

@@ -1,6 +1,6 @@
 // What an offer decides before anything is written: steps 2 to 5.
+// Both areas are given, also where the words alone are read: what is asked is that the two hold a cache.
 ghost use Rattle.std.specs.Prelude.{◌≡◌, true, ◌≤◌, length, replicate};
-ghost use Rattle.table.specs.Layout.{held_count};
 ghost use Rattle.table.specs.Parts.{entries_of, templates_of};
 ghost use Rattle.table.specs.Reads.{label_in};
 ghost use Rattle.pending_flows.specs.Header.{HoldsCache};
@@ -12,18 +12,14 @@ use super::evictions::evictions_for;
 use super::live_tests::live_test;
 use config::{ENTRY_WORDS, PendingFlowsConfig, RECORD_WORDS};
 use pending_flows::Header;
-use table::{
-    LABELS, TemplateRecord, count_in, entries_in, first_label, record_of, records_at, records_in,
-};
-use table_entries::sums_by_label;
-use table_records::{first_live, live_records, set_sum, skip_records};
-
-// More than any template has.
-const SKIP_ALL: u32 = 262144;
+use table::{LABELS, TemplateRecord, count_in, first_label, record_of};
+use table_entries::{stays, sums_by_label};
+use table_records::{SKIP_ALL, first_live, live_records, set_sum, skip_records};
 
 // What an offer decides: whether the template is full (20), the id's label where the id is held, whether expired bodies
 // of all ids go or only the id's, whether it is certain that nothing goes, whether it is certain that no body goes as
 // expired, how many least recent templates go for their bytes, and the label of the one that goes for room, if one does.
+// Flags, no enum: `none` and `none_expired` each go with several decisions, and each flag is asked about alone.
 #[derive(Clone, Copy)]
 pub struct OfferPlan {
     pub full: bool,
@@ -35,12 +31,14 @@ pub struct OfferPlan {
     pub first: Option<u64>,
 }
 
-// What is decided by the templates that step 2 leaves; first: the label of the template that goes for room, if one does.
-#[derive(Clone, Copy)]
-struct Decision {
-    full: bool,
-    all: bool,
-    first: Option<u64>,
+// What is decided by the templates that step 2 leaves.
+enum Decision {
+    // the id's template is full
+    Full,
+    // there is room: of other ids nothing goes
+    Room,
+    // there is none for a new id: expired bodies of all ids go, and the template of this label, if one is told
+    NoRoom(Option<u64>),
 }
 
 // How many live bodies the record that was found has, where the id has so many.
@@ -97,8 +95,9 @@ fn oldest_evicted(
     let Some(_) = ttl else {
         return first_of_full(records, limits.max_pending_flows);
     };
+    let test = live_test(ttl, clock);
     let mut live = [0u32; LABELS];
-    sums_by_label(entries, live_test(ttl, clock), false, &mut live);
+    sums_by_label(entries, |entry| stays(test, entry).then_some(1), &mut live);
     first_evicted(records, limits.max_pending_flows, &live)
 }
 
@@ -119,25 +118,15 @@ fn decide(
     let found = record_of(records, id);
     let here = live_found(found, live);
     if 0 < here {
-        return Decision {
-            full: limits.max_entries_per_template <= here,
-            all: false,
-            first: None,
-        };
+        if limits.max_entries_per_template <= here {
+            return Decision::Full;
+        }
+        return Decision::Room;
     }
     if others_fill(found, records.len(), limits.max_pending_flows) {
-        let first = oldest_evicted(limits, entries, records, clock);
-        return Decision {
-            full: false,
-            all: true,
-            first,
-        };
+        return Decision::NoRoom(oldest_evicted(limits, entries, records, clock));
     }
-    Decision {
-        full: false,
-        all: false,
-        first: None,
-    }
+    Decision::Room
 }
 
 // Whether it is certain that no body goes: no template is evicted, nothing is handed out, only the id's bodies can go
@@ -174,21 +163,25 @@ pub fn plan_offer(
 {
     let Header { limits, figures } = header;
     let evicted = evictions_for(words, bytes, header, len);
-    let held = records_in(words, records_at(limits), figures.templates as usize);
-    let entries = entries_in(words, figures.entries as usize);
+    let (held, _) = header.templates(words);
+    let entries = header.entries(words);
     let (_, stay) = held.split_at(evicted);
-    let decision = decide(limits, entries, stay, id, clock, live);
+    let (full, all, first) = match decide(limits, entries, stay, id, clock, live) {
+        Decision::Full => (true, false, None),
+        Decision::Room => (false, false, None),
+        Decision::NoRoom(first) => (false, true, first),
+    };
     let own = record_of(held, id);
     let ttl = limits.ttl;
-    let none_expired = none_expires(ttl, decision.all, count_in(own), live);
+    let none_expired = none_expires(ttl, all, count_in(own), live);
     OfferPlan {
-        full: decision.full,
+        full,
         label: own.map(|template| template.label),
-        all: decision.all,
-        none: nothing_goes(evicted, figures.chance, decision.all, none_expired),
+        all,
+        none: nothing_goes(evicted, figures.chance, all, none_expired),
         none_expired,
         evicted,
-        first: decision.first,
+        first,
     }
 }
 
@@ -201,16 +194,11 @@ pub fn skip_planned(
     skip: &mut [u32; LABELS],
 )
     requires header_value { HoldsCache header words.now (length bytes.now) }
-    requires plan_value { plan.evicted ≤ held_count words.now }
     requires skip_value { skip.old ≡ replicate 1024 0 }
     ensures { skip.new ≡ skip_of words.now plan }
 {
-    let Header { limits, figures } = header;
-    let held = figures.templates as usize;
-    let templates = records_in(words, records_at(limits), held + (figures.chance as usize));
-    let (held, handed) = templates.split_at(held);
-    let (leaving, _) = held.split_at(plan.evicted);
-    skip_records(leaving, skip);
+    let (held, handed) = header.templates(words);
+    skip_records(&held[..plan.evicted.min(held.len())], skip);
     skip_records(handed, skip);
     if let Some(label) = plan.first {
         set_sum(skip, label, SKIP_ALL);

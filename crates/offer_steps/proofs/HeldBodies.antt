@@ -14,16 +14,12 @@ use Rattle.pending_flows.specs.View.{cache_of}
 use Rattle.pending_flows.specs.declared.header.HeaderFigures.{HeaderFigures}
 use Rattle.pending_flows.specs.declared.header.Header.{Header}
 use Rattle.pending_flows.specs.Header.{header_of, HoldsCache}
-use Rattle.pending_flows.proofs.Figures.{handed_few}
 use Rattle.pending_flows.proofs.Figures.{bodies_read, held_counted}
 use Rattle.offer_steps.specs.Settle.{settled_figures}
 
 module _ (w b : List ℕ) {h : Header} (holds : HoldsCache h w (length b)) where
   -- n bodies are handed out
   module _ {n : ℕ} (handed : n ≡ count_sum (table_of w).handed) where
-    pub handed_fewer : n ≤ h.figures.entries
-    handed_fewer = rw holds.figures (handed_few w b holds.legal handed)
-
     pub held_rest : h.figures.entries - n ≡ length (all_bodies (cache_of (table_of w) b).held)
     held_rest = rw holds.figures (bodies_read w b holds.legal handed)
 

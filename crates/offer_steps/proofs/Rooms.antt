@@ -16,7 +16,7 @@ use Rattle.table.specs.WellFormed.{places_legal}
 use Rattle.table.proofs.Facts.{Placed, places_say, places_hold}
 use Rattle.table.proofs.Labels.{labels_of}
 use Rattle.table_entries.specs.Sums.{lens_sum}
-use Rattle.table_entries.specs.Pack.{last_end, packed_entries, packed_end, packed_bytes, Packs}
+use Rattle.table_entries.specs.Pack.{HoldsEntries, last_end, packed_entries, packed_end, packed_bytes, Packs}
 use Rattle.table_entries.specs.Sweep.{put_entry}
 use Rattle.table_entries.proofs.Lengths.{placed_wider, first_end_within}
 use Rattle.table_entries.proofs.Frames.{entries_below, entries_more, take_put, drop_put, entry_put}
@@ -29,9 +29,13 @@ pub parts_legal : (most : ℕ) (es : List Entry) (parts : List (List ℕ)) → p
     entries_of parts ≡ es → places_legal 0 most (entries_of parts) ≡ true
 parts_legal most es parts legal are = rw are legal
 
-pub legal_wider : (most : ℕ) (es : List Entry) → places_legal 0 most es ≡ true → (n : ℕ) → most ≤ n →
-    places_legal 0 n es ≡ true
-legal_wider most es legal n room = places_hold 0 n es (placed_wider 0 most n es room (places_say 0 most es legal))
+pub holds_wider : (m : ℕ) (w : List ℕ) (most : ℕ) → HoldsEntries m w most → (n : ℕ) → most ≤ n → HoldsEntries m w n
+holds_wider m w most holds n room =
+    let es = entries_from w entries_at m in
+    record {
+      in_words = holds.in_words;
+      in_bytes = places_hold 0 n es (placed_wider 0 most n es room (places_say 0 most es holds.in_bytes));
+    }
 
 module _ (m len most : ℕ) (w b : List ℕ) where
   pub room_behind : (end : ℕ) (parts : List (List ℕ)) → entries_of parts ≡ entries_from w entries_at m →

@@ -1,4 +1,5 @@
 // The counters, and the header after an offer.
+// Both areas are given, also where the words alone are read: what is asked is that the two hold a cache.
 ghost use Rattle.std.specs.Prelude.{◌≡◌, ◌≤◌, length, set};
 ghost use Rattle.areas.specs.Overwrite.{overwritten};
 ghost use Rattle.config.specs.Limits.{header_words};
@@ -23,7 +24,7 @@ pub fn count_drop(words: &mut [u64])
 }
 
 // How many bodies are held: all but those that are handed out.
-#[tactic(auto, using(crate::proofs::HeldBodies::held_rest))]
+#[tactic(auto, using(pending_flows::proofs::Figures::handed_few, crate::proofs::HeldBodies::held_rest))]
 pub fn held_bodies(words: &[u64], bytes: &[u8], header: Header) -> u64
     requires { HoldsCache header words.now (length bytes.now) }
     ensures { result ≡ length (all_bodies (cache_of (table_of words.now) bytes.now).held) }

@@ -1,10 +1,9 @@
 // Room for a body behind the others, and the body in it.
-ghost use Rattle.std.specs.Prelude.{◌≡◌, true, ◌+◌, ◌*◌, ◌≤◌, ◌<◌, length};
+ghost use Rattle.std.specs.Prelude.{◌+◌, ◌*◌, ◌≤◌, ◌<◌, length};
 ghost use Rattle.config.specs.Limits.{entry_words};
 ghost use Rattle.table.specs.Layout.{entries_at};
 ghost use Rattle.table.specs.Parts.{templates_of};
-ghost use Rattle.table.specs.Table.{entries_from};
-ghost use Rattle.table.specs.WellFormed.{places_legal};
+ghost use Rattle.table_entries.specs.Pack.{HoldsEntries};
 ghost use Rattle.offer_steps.specs.Room.{MakesRoom, entry_of, StoresBody, RoomFor, AddsBody};
 ghost use Rattle.offer_steps.specs.Room.{ChoosesLabel};
 
@@ -20,7 +19,7 @@ use table_records::free_label;
 // once they are moved together.
 // The words and how many entries, no parts: `as_chunks_mut` says nothing of what the words end as.
 fn make_room(words: &mut [u64], bytes: &mut [u8], entries: usize, len: usize, most: usize) -> usize
-    requires entries_in_bounds { (entries_at + entry_words * entries ≤ length words.old) × (places_legal 0 most (entries_from words.old entries_at entries) ≡ true) }
+    requires entries_in_bounds { HoldsEntries entries words.old most }
     requires len_le_most { (len ≤ most) × ((most ≤ length bytes.old) × (most ≤ 67108864)) }
     ensures { MakesRoom entries len most words.old bytes.old words.new
         bytes.new result }

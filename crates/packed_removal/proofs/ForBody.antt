@@ -3,7 +3,7 @@
 use Rattle.std.proofs.Common.{Option, Some, slice_get}
 use Rattle.std.proofs.lemmas.Option.{none-some, get_or_from_slice_get}
 use mathlib.Core.Path.{◌≡◌, refl, sym, ap, ◌∙◌}
-use mathlib.Core.Logic.{inl, inr}
+use mathlib.Core.Logic.{inr}
 use mathlib.Core.Bool.{Bool, true, false, cond}
 use mathlib.Core.List.{List, [], ◌∷◌, ◌++◌}
 use Prim.Native.Nat.{ℕ, ◌+◌, ◌-◌, ◌≤◌, ◌<◌}
@@ -31,7 +31,6 @@ use Rattle.template_removal.proofs.TemplateRemoved.{swept_is}
 use Rattle.offer_plan.specs.declared.plan.OfferPlan.{OfferPlan}
 use Rattle.offer_plan.specs.Plan.{NoneExpired}
 use Rattle.planned_removal.specs.Alone.{GoesAlone}
-use Rattle.planned_removal.specs.Planned.{RemovesPlanned}
 use Rattle.planned_removal.proofs.AloneGoing.{alone_removed}
 use Rattle.packed_removal.specs.ForBody.{EndsPast, RemovesForBody}
 
@@ -74,7 +73,7 @@ parts_behind w (x ∷ ws) = ap (λ (l : List Entry). entry_of w ∷ l) (parts_be
 -- by the words of the last entry, where there is one
 pub ends_told : (label len most : ℕ) (ws : List (List ℕ)) (w : List ℕ) (e : Entry) (end : ℕ) →
     Some w ≡ slice_get ws (length ws - 1) → e ≡ entry_of w → end ≡ last_end (entries_of ws) →
-    (label ≡ e.label → ⊥) → ltb most (end + len) ≡ true → EndsPast label len most (entries_of ws)
+    (label ≡ e.label → ⊥) → ltb (most - end) len ≡ true → EndsPast label len most (entries_of ws)
 ends_told label len most [] w e end last is ends other past = absurd (none-some _ (sym last))
 ends_told label len most (x ∷ ws) w e end last is ends other past =
     let found = get_or_from_slice_get (x ∷ ws) (length ws) w [] (sym (simp unary_clauses at last)) in
@@ -83,14 +82,10 @@ ends_told label len most (x ∷ ws) w e end last is ends other past =
       last = e;
       behind = rw (is, ← found) (parts_behind x ws);
       other = other;
-      past = rw ends at (ltb-true most (end + len) past);
+      past = omega (arith, ends, ltb-true (most - end) len past);
     }
 
 -- ---- the removal
-
-pub left_so : {clock apart len : ℕ} {plan : OfferPlan} {w b w' : List ℕ} {r : Removed} →
-    RemovesPlanned clock plan apart w w' r → RemovesForBody clock plan apart len w b w' b r
-left_so {w' = w'} done = record { unpacked = w'; removes = done; left = inl (refl, refl) }
 
 module _ (w b : List ℕ) {h : Header} (holds : HoldsCache h w (length b)) where
   legal : LegalWords w (length b)

@@ -2,12 +2,10 @@
 #![tactic(auto)]
 
 ghost use Rattle.std.specs.Prelude.{◌≡◌, true, ◌≤◌, length};
-ghost use Rattle.table.specs.Layout.{held_count};
 ghost use Rattle.table.specs.Parts.{entries_of};
 ghost use Rattle.table.specs.Reads.{label_or_none};
 ghost use Rattle.table.specs.WellFormed.{places_legal};
-ghost use Rattle.pending_flows.specs.Header.{HoldsCache};
-ghost use Rattle.offer_plan.specs.Plan.{KeepsAll, NoneExpired};
+ghost use Rattle.planned_removal.specs.Planned.{PlannedAll};
 ghost use Rattle.packed_removal.specs.ForBody.{EndsPast, RemovesForBody};
 
 use config::ENTRY_WORDS;
@@ -15,22 +13,21 @@ use offer_plan::OfferPlan;
 use pending_calls::Removed;
 use pending_flows::Header;
 use planned_removal::{alone_label, remove_planned};
-use table::{entries_in, entry_of};
+use table::entry_of;
 use table_entries::last_end;
 use template_removal::remove_packing;
 
 // Whether it is certain that a body of this length does not fit behind the last one without the bodies of a label.
 #[tactic(auto, using(crate::proofs::ForBody::ends_told))]
 fn ends_past(entries: &[[u64; ENTRY_WORDS]], label: u64, len: usize, most: usize) -> bool
-    requires entries_value { places_legal 0 most (entries_of entries.now) ≡ true }
-    requires len_le_most { (len ≤ most) × (most ≤ 67108864) }
+    requires { (places_legal 0 most (entries_of entries.now) ≡ true) × (most ≤ 67108864) }
     ensures { result ≡ true → EndsPast label len most (entries_of entries.now) }
 {
     let Some(words) = entries.last() else {
         return false;
     };
     let last = entry_of(words);
-    label != last.label && most < (last_end(entries) as usize) + len
+    label != last.label && most.saturating_sub(last_end(entries) as usize) < len
 }
 
 // Removes what the plan removes. Where one template goes alone, and it is certain that a body of this length does not
@@ -43,16 +40,12 @@ pub fn remove_for_body(
     clock: u64,
     len: usize,
 ) -> Removed
-    requires header_value { HoldsCache header words.old (length bytes.old) }
-    requires plan_value { plan.evicted ≤ held_count words.old }
-    requires len_value { len ≤ header.limits.max_total_bytes }
-    requires keeps_all { KeepsAll words.old clock plan × (plan.none ≡ true → header.figures.chance ≡ 0) }
-    requires none_expired { NoneExpired words.old clock plan }
+    requires { PlannedAll header clock plan words.old (length bytes.old) }
     ensures { RemovesForBody clock plan (label_or_none plan.label) len words.old bytes.old words.new
         bytes.new result }
 {
     if let Some(label) = alone_label(words, bytes, header, plan) {
-        let entries = entries_in(words, header.figures.entries as usize);
+        let entries = header.entries(words);
         if ends_past(entries, label, len, header.limits.max_total_bytes) {
             return remove_packing(words, bytes, header, label, plan.label);
         }

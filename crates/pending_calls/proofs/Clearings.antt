@@ -1,7 +1,7 @@
 -- Areas before and after clearing. Assumes nothing.
 use Rattle.std.proofs.Common.{Ok, Err}
 use mathlib.Core.Path.{◌≡◌, refl, ◌∙◌}
-use mathlib.Core.Bool.{Bool, true, false}
+use mathlib.Core.Bool.{false}
 use mathlib.Core.List.{List}
 use mathlib.Core.Option.{some}
 use Prim.Native.Nat.{ℕ, ◌≤◌}
@@ -20,7 +20,8 @@ use Rattle.cache_model.specs.Calls.{cleared}
 use Rattle.pending_flows.specs.View.{areas_of, cache_of, view}
 use Rattle.pending_flows.specs.declared.header.HeaderFigures.{HeaderFigures}
 use Rattle.pending_flows.specs.declared.header.Header.{Header}
-use Rattle.pending_flows.specs.Header.{header_at, header_of}
+use Rattle.pending_flows.specs.Header.{HoldsCache, header_of}
+use Rattle.pending_flows.proofs.Questions.{header_is}
 use Rattle.pending_calls.specs.Promises.{Does, Clears}
 use Rattle.pending_calls.proofs.Performed.{damaged_performs, performed, untouched_all}
 use Rattle.pending_calls.proofs.Headers.{headed, headed_flag, headed_limits, headed_length, headed_behind}
@@ -36,9 +37,9 @@ emptied w = record {
   chance = 0;
 }
 
-module _ (w b : List ℕ) (ok : well_formed w (length b) ≡ true) where
+module _ (w b : List ℕ) {h : Header} (cached : HoldsCache h w (length b)) where
   legal : LegalWords w (length b)
-  legal = words_say w (length b) ok
+  legal = words_say w (length b) cached.legal
 
   empty_view : view (areas_of (headed (limits_of w) (emptied w) w) b) ≡ some (cleared (cache_of (table_of w) b)).cache
   unfolding view well_formed entries_from records_from index_from index_rises cleared
@@ -54,19 +55,18 @@ module _ (w b : List ℕ) (ok : well_formed w (length b) ≡ true) where
         le-leb 0 (max_bodies l) (omega arith),
       )
 
-  pub header_emptied : (h : Header) (w' : List ℕ) → h ≡ header_at w
-      → w' ≡ overwritten w (header_of h.limits (record {
-        cached = h.figures.cached;
-        dropped = h.figures.dropped;
-        total = 0;
-        templates = 0;
-        entries = 0;
-        chance = 0;
-      }))
+  pub header_emptied : (w' : List ℕ) → w' ≡ overwritten w (header_of h.limits (record {
+    cached = h.figures.cached;
+    dropped = h.figures.dropped;
+    total = 0;
+    templates = 0;
+    entries = 0;
+    chance = 0;
+  }))
       → Does cleared (cache_of (table_of w) b) (areas_of w b) done (areas_of w' b)
   unfolding overwritten cleared
-  header_emptied h w' e x =
-      let z : w' ≡ headed (limits_of w) (emptied w) w = x ∙ rw e in
+  header_emptied w' written =
+      let z : w' ≡ headed (limits_of w) (emptied w) w = written ∙ rw (header_is w (length b) cached) in
       let long : 12 ≤ length w = omega (arith, legal.header_long) in
       rw z
       (record {
@@ -81,11 +81,11 @@ module _ (w b : List ℕ) (ok : well_formed w (length b) ≡ true) where
       })
 
 -- the call, behind the test of 28
-module _ (w b : List ℕ) {v : Bool} (tested : v ≡ well_formed w (length b)) where
-  pub clear_damaged : v ≡ false → Clears (areas_of w b) (Err (record {})) (areas_of w b)
-  clear_damaged h = record { performs = damaged_performs w b tested cleared h; frame = untouched_all _ _ _ }
+module _ (w b : List ℕ) where
+  pub clear_damaged : well_formed w (length b) ≡ false → Clears (areas_of w b) (Err (record {})) (areas_of w b)
+  clear_damaged damaged = record { performs = damaged_performs w b cleared damaged; frame = untouched_all _ _ _ }
 
-  pub clear_done : {w' b' : List ℕ} → v ≡ true → Does cleared (cache_of (table_of w) b) (areas_of w b) done
-      (areas_of w' b')
-      → Clears (areas_of w b) (Ok tt) (areas_of w' b')
-  clear_done h d = record { performs = performed w b tested cleared h d; frame = d.frame }
+  pub clear_done : {h : Header} → HoldsCache h w (length b) → {w' b' : List ℕ} →
+      Does cleared (cache_of (table_of w) b) (areas_of w b) done (areas_of w' b') →
+      Clears (areas_of w b) (Ok tt) (areas_of w' b')
+  clear_done holds d = record { performs = performed w b cleared holds.legal d; frame = d.frame }

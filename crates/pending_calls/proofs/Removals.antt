@@ -1,10 +1,9 @@
 -- A removal from its steps: the sweep, the counts by label, the closing. Assumes nothing.
 use mathlib.Core.Path.{◌≡◌, refl, ap, ◌∙◌}
-use mathlib.Core.Bool.{false}
 use mathlib.Core.List.{List}
 use Prim.Native.Nat.{ℕ, ◌+◌, ◌*◌, ◌%◌, ◌^◌, ◌≤◌}
 use native.Mathlib.Omega.{arith}
-use lib.ListN.{length, get_or, set, replicate}
+use lib.ListN.{length, get_or, set}
 use Rattle.config.specs.Limits.{record_words, entry_words}
 use Rattle.areas.proofs.Puts.{take_less, drop_more}
 use Rattle.table.specs.declared.Entry.{Entry}
@@ -12,13 +11,13 @@ use Rattle.table.specs.Layout.{entries_at}
 use Rattle.table.specs.Table.{entries_from, records_from, index_from}
 use Rattle.table_entries.specs.declared.StayTest.{StayTest}
 use Rattle.table_entries.specs.declared.sweeps.Kept.{Kept}
-use Rattle.table_entries.specs.Sums.{lens_sum, summed}
+use Rattle.table_entries.specs.Sums.{lens_sum}
 use Rattle.table_entries.specs.Sweep.{swept, KeepsOnly}
 use Rattle.table_entries.proofs.Frames.{entries_below}
 use Rattle.table_records.specs.Close.{Closes}
 use Rattle.table_records.proofs.Frames.{records_above, index_above}
 use Rattle.pending_calls.specs.declared.removal.Removed.{Removed}
-use Rattle.pending_calls.specs.Removal.{everything, counted, counted_but, ClosesApart, RemovesTo, Removes}
+use Rattle.pending_calls.specs.Removal.{counted, counted_but, ClosesApart, RemovesTo, Removes}
 
 module _ (q : StayTest) (p k m apart : ℕ) (skip w w₁ w' kept : List ℕ) (left : Kept) (r : Removed) where
   -- the entries that are left may be any list whose lengths add up to the same
@@ -56,11 +55,10 @@ module _ (q : StayTest) (p k m apart : ℕ) (skip w w₁ w' kept : List ℕ) (le
       ClosesApart p k apart left kept w₁ w' r → length w' ≡ length w → Removes q p k m apart skip w w' r
   removal_done room s counts c long = removal_to (swept q skip (entries_from w entries_at m)) room s refl counts c long
 
--- the counts of what a sweep left, with the test by which every body stays
-pub swept_counted : {es : List Entry} {m : ℕ} {w w₁ : List ℕ} {left : Kept} (q : StayTest) {kept : List ℕ} →
-    KeepsOnly es m w w₁ left → q ≡ everything →
-    kept ≡ summed q false (replicate 1024 0) (entries_from w₁ entries_at left.entries) → kept ≡ counted es
-swept_counted q s stays is = is ∙ rw (stays, s.entries)
+-- the counts of what a sweep left
+pub swept_counted : {es : List Entry} {m : ℕ} {w w₁ : List ℕ} {left : Kept} {kept : List ℕ} →
+    KeepsOnly es m w w₁ left → kept ≡ counted (entries_from w₁ entries_at left.entries) → kept ≡ counted es
+swept_counted s is = is ∙ ap counted s.entries
 
 -- the records closed, with none kept for the label apart
 pub closed_apart : (p k apart : ℕ) (left : Kept) (kept w w' : List ℕ) {kept' : List ℕ} {remain bodies : ℕ} →

@@ -174,11 +174,11 @@ module _ (w b : List ℕ) {h : Header} (holds : HoldsCache h w (length b)) {skip
           (others_stay b ttl now a es within short k (λ e. d (sym e)))
 
   -- from the steps of the code
-  pub sweep_room : (entries_at + entry_words * h.figures.entries ≤ length w) × (length skip ≡ 1024)
+  pub sweep_room : entries_at + entry_words * h.figures.entries ≤ length w
   sweep_room =
       let below = entries_below_records w (length b) legal in
       let inside = records_within w (length b) legal in
-      (rw holds.figures (omega arith), skips.long)
+      rw holds.figures (omega arith)
 
   module _ (q : StayTest) (apart : ℕ) where
     -- how many of a label are told to stay

@@ -1,6 +1,6 @@
 -- A removal: entries are swept, records closed. It is decided before, by a test and by how many bodies are skipped.
 use Rattle.std.specs.Prelude.{Option, Some, None, ◌≡◌, false, List, ℕ, ◌+◌, ◌*◌, ◌≤◌, ◌<◌, length, get_or, set, replicate, take, drop}
-use Rattle.config.specs.Limits.{record_words}
+use Rattle.config.specs.Limits.{record_words, entry_words}
 use Rattle.config.proofs.Lists.{All}
 use Rattle.table.specs.declared.Entry.{Entry}
 use Rattle.table.specs.declared.TemplateRecord.{TemplateRecord}
@@ -18,8 +18,7 @@ abbrev pub unexpired : Option ℕ → ℕ → ℕ → StayTest
 unexpired ttl clock label = record {
   ttl = ttl;
   clock = clock;
-  all = false;
-  label = label;
+  only = Some label;
   max_size = 18446744073709551615;
 }
 
@@ -33,6 +32,12 @@ counted es = summed everything false (replicate 1024 0) es
 
 abbrev pub counted_but : ℕ → List Entry → List ℕ
 counted_but apart es = set (counted es) apart 0
+
+-- m entries lie before word p, and from it on k records, no more than there are labels; there are so many words
+pub record RowsWithin (p k m words : ℕ) : Type 0 where
+  pub entries_below : entries_at + entry_words * m ≤ p
+  pub records_within : p + record_words * k ≤ words
+  pub records_few : k ≤ 1024
 
 -- k records from word p on are closed by how many bodies each label has kept; the record of the label `apart` goes
 pub record ClosesApart (p k apart : ℕ) (left : Kept) (kept w w' : List ℕ) (r : Removed) : Type 0 where

@@ -1,9 +1,10 @@
 // Clearing a cache.
-ghost use Rattle.std.specs.Prelude.{◌≡◌, true, length};
+// Both areas are given, also where the words alone are read: what is asked is that the two hold a cache.
+ghost use Rattle.std.specs.Prelude.{length};
 ghost use Rattle.table.specs.Table.{table_of};
-ghost use Rattle.table.specs.WellFormed.{well_formed};
 ghost use Rattle.cache_model.specs.Cache.{done};
 ghost use Rattle.cache_model.specs.Calls.{cleared};
+ghost use Rattle.pending_flows.specs.Header.{HoldsCache};
 ghost use Rattle.pending_flows.specs.View.{areas_of, cache_of};
 ghost use Rattle.pending_calls.specs.Promises.{Does, Clears};
 
@@ -11,12 +12,12 @@ use pending_flows::{Header, HeaderFigures};
 use table::Damaged;
 
 // Empties a well-formed cache.
-fn clear_cache(words: &mut [u64], bytes: &[u8])
-    requires { well_formed words.old (length bytes.now) ≡ true }
+fn clear_cache(words: &mut [u64], bytes: &[u8], header: Header)
+    requires { HoldsCache header words.old (length bytes.now) }
     ensures { Does cleared (cache_of (table_of words.old) bytes.now)
         (areas_of words.old bytes.now) done (areas_of words.new bytes.now) }
 {
-    let Header { limits, figures } = Header::read(words);
+    let Header { limits, figures } = header;
     let empty = Header {
         limits,
         figures: HeaderFigures {
@@ -31,13 +32,12 @@ fn clear_cache(words: &mut [u64], bytes: &[u8])
 }
 
 // Empties the cache and leaves the counters; handed-out bodies stay handed out.
+#[tactic(auto, using(crate::proofs::Clearings::clear_damaged))]
 pub fn clear(words: &mut [u64], bytes: &[u8]) -> Result<(), Damaged>
     ensures { Clears (areas_of words.old bytes.now) result
         (areas_of words.new bytes.now) }
 {
-    if !table_check::well_formed(words, bytes.len()) {
-        return Err(Damaged);
-    }
-    clear_cache(words, bytes);
+    let header = Header::of_cache(words, bytes)?;
+    clear_cache(words, bytes, header);
     Ok(())
 }

@@ -1,13 +1,14 @@
 // Removing bodies, once it is decided which.
+// Both areas are given, also where the words alone are read: what is asked is that the two hold a cache.
 ghost use Rattle.std.specs.Prelude.{◌≡◌, ◌+◌, ◌*◌, ◌≤◌, length, replicate};
-ghost use Rattle.config.specs.Limits.{record_words, entry_words};
+ghost use Rattle.config.specs.Limits.{record_words};
 ghost use Rattle.table.specs.Layout.{entries_at};
 ghost use Rattle.table.specs.Reads.{label_or_none};
 ghost use Rattle.table.specs.Table.{entries_from, records};
 ghost use Rattle.table_entries.specs.Sweep.{swept};
 ghost use Rattle.pending_flows.specs.Header.{HoldsCache};
 ghost use Rattle.pending_calls.specs.Removal.{everything, unexpired, ClosesApart, SkipsWhole, LiveTold};
-ghost use Rattle.pending_calls.specs.Removal.{Removes, RemovesFrom};
+ghost use Rattle.pending_calls.specs.Removal.{RowsWithin, Removes, RemovesFrom};
 
 use pending_flows::Header;
 use table::{LABELS, entries_in, label_number, records_at, records_in};
@@ -32,8 +33,7 @@ pub fn label_test(ttl: Option<u64>, clock: u64, label: u64) -> StayTest
     StayTest {
         ttl,
         clock,
-        all: false,
-        label,
+        only: Some(label),
         max_size: u64::MAX,
     }
 }
@@ -48,6 +48,7 @@ pub fn stay_all() -> StayTest
 // Closes the records by how many bodies each label has kept; the record of the label `apart`, if one is told, goes, and
 // what it kept is told.
 // The words and a place, no parts: `as_chunks_mut` says nothing of what the words end as.
+// No `RowsWithin` here: it speaks of the entries too, which are swept by now.
 #[tactic(auto, using(crate::proofs::Removals::closed_apart))]
 fn close_apart(
     words: &mut [u64],
@@ -83,15 +84,14 @@ pub fn remove(
     skip: &mut [u32; LABELS],
     apart: Option<u64>,
 ) -> Removed
-    requires entries_bound { (entries_at + entry_words * entries ≤ from) × (from + record_words * records ≤ length words.old) }
-    requires records_bound { (records ≤ 1024) × (length skip.old ≡ 1024) }
+    requires { RowsWithin from records entries (length words.old) }
     ensures { Removes test from records entries (label_or_none apart) skip.old words.old words.new
         result }
 {
     let left = sweep(words, entries, test, skip);
     let mut kept = [0u32; LABELS];
     let stayed = entries_in(words, left.entries);
-    sums_by_label(stayed, stay_all(), false, &mut kept);
+    sums_by_label(stayed, |_| Some(1), &mut kept);
     close_apart(words, from, records, left, &mut kept, apart)
 }
 

@@ -22,7 +22,7 @@ use Rattle.cache_model.specs.Calls.{drained}
 use Rattle.cache_model.proofs.Calls.{drained_within}
 use Rattle.cache_model.proofs.Drops.{drain_drops}
 use Rattle.pending_flows.specs.declared.header.HeaderFigures.{HeaderFigures}
-use Rattle.pending_flows.specs.Header.{figures_at}
+use Rattle.pending_flows.specs.Header.{header_at}
 use Rattle.pending_flows.specs.View.{bodies_at, templates_at, chance_at, areas_of, cache_of}
 use Rattle.pending_flows.proofs.Questions.{first_records}
 use Rattle.pending_flows.proofs.Figures.{held_counted}
@@ -54,7 +54,7 @@ module _ (w b : List ℕ) (i now : ℕ) where
   live = keep (λ x. not (expired (limits_of w).ttl now x)) (bodies_of i cache.held)
 
   module _ (ok : well_formed w (length b) ≡ true) {w₁ : List ℕ} {r : Removed}
-      (taken : TakesOut (limits_of w).ttl now label p (figures_at w) w w₁ r) where
+      (taken : TakesOut (header_at w) now label w w₁ r) where
     legal : LegalWords w (length b)
     legal = words_say w (length b) ok
 

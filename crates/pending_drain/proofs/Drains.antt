@@ -2,7 +2,7 @@
 -- Assumes nothing.
 use Rattle.std.proofs.Common.{Option, Ok, Err}
 use mathlib.Core.Path.{◌≡◌, ap}
-use mathlib.Core.Bool.{Bool, true, false}
+use mathlib.Core.Bool.{true, false}
 use mathlib.Core.List.{List}
 use Prim.Native.Nat.{ℕ, ◌+◌, ◌*◌, ◌-◌, ◌%◌, ◌^◌, ◌≤◌, ◌<◌}
 use native.Mathlib.Omega.{arith}
@@ -19,7 +19,7 @@ use Rattle.table.proofs.FoundLabels.{label_for}
 use Rattle.cache_model.specs.Cache.{raised, count}
 use Rattle.cache_model.specs.Calls.{drained}
 use Rattle.pending_flows.specs.declared.header.Header.{Header}
-use Rattle.pending_flows.specs.Header.{HoldsCache, figures_at, header_at, header_of}
+use Rattle.pending_flows.specs.Header.{HoldsCache, header_at, header_of}
 use Rattle.pending_flows.specs.View.{areas_of, cache_of}
 use Rattle.pending_flows.proofs.Figures.{handed_few}
 use Rattle.pending_calls.specs.declared.removal.Removed.{Removed}
@@ -40,9 +40,9 @@ pub record Settling (entries handed left bytes live : ℕ) (w : List ℕ) : Type
   pub less_live : live ≤ bytes
   pub header_fits : header_words ≤ length w
 
-module _ (w b : List ℕ) (i now : ℕ) {h : Header} (holds : HoldsCache h w (length b)) {p : ℕ}
-    (from : p ≡ records_at h.limits) {x : Option ℕ} (labelled : x ≡ label_of i (records_from w p h.figures.templates))
-    {w₁ : List ℕ} {r : Removed} (out : TakesOut h.limits.ttl now (label_or_none x) p h.figures w w₁ r) where
+module _ (w b : List ℕ) (i now : ℕ) {h : Header} (holds : HoldsCache h w (length b)) {x : Option ℕ}
+    (labelled : x ≡ label_of i (records_from w (records_at h.limits) h.figures.templates)) {w₁ : List ℕ} {r : Removed}
+    (out : TakesOut h now (label_or_none x) w w₁ r) where
   abbrev a : ℕ
   a = label_or_none x
 
@@ -51,17 +51,14 @@ module _ (w b : List ℕ) (i now : ℕ) {h : Header} (holds : HoldsCache h w (le
       (0 < r.apart → p + record_words * (r.records + 1) ≤ length w₁) ×
       (index_rises (records_from w₁ p r.records) 0 (index_from w₁ p r.records) ≡ true)
 
-  pub hand_ready : Ready p
+  pub hand_ready : Ready (records_at h.limits)
   hand_ready =
-      as_labelled w (length b) holds from i labelled
-      (λ h p a. TakesOut h.limits.ttl now a p h.figures w w₁ r → Ready p) ready out
+      as_labelled w (length b) holds i labelled (λ h a. TakesOut h now a w w₁ r → Ready (records_at h.limits)) ready out
     where
       legal : LegalWords w (length b)
       legal = words_say w (length b) holds.legal
 
-      ready : TakesOut (limits_of w).ttl now (label_for i (table_of w).held) (records_at (limits_of w))
-          (figures_at w)
-          w w₁ r → Ready (records_at (limits_of w))
+      ready : TakesOut (header_at w) now (label_for i (table_of w).held) w w₁ r → Ready (records_at (limits_of w))
       ready o = (
         λ some. omega (
           arith,
@@ -74,25 +71,24 @@ module _ (w b : List ℕ) (i now : ℕ) {h : Header} (holds : HoldsCache h w (le
 
   module _ {m : LiveFigures} (read : m ≡ live_figures h.limits.ttl now a (entries_from w entries_at h.figures.entries))
       (id : i < 65536) {w₂ : List ℕ} {c n : ℕ}
-      (hand : HandsOut p r.records (record { key = i; label = a; count = r.apart }) w₁ w₂ c)
+      (hand : HandsOut (records_at h.limits) r.records (record { key = i; label = a; count = r.apart }) w₁ w₂ c)
       (long : length w₂ ≡ length w) (handed : n ≡ count_sum (table_of w).handed) where
     -- where what was taken out and handed out says it, with the header and label read
-    after_hand : (T : Header → ℕ → ℕ → Type 0) →
-        (TakesOut (limits_of w).ttl now (label_for i (table_of w).held) (records_at (limits_of w)) (figures_at w) w
-        w₁ r → HandsOut (records_at (limits_of w)) r.records
+    after_hand : (T : Header → Type 0) →
+        (TakesOut (header_at w) now (label_for i (table_of w).held) w w₁ r → HandsOut (records_at (limits_of w)) r.records
         (record { key = i; label = label_for i (table_of w).held; count = r.apart }) w₁ w₂ c →
         m.bytes ≡ live_lens (limits_of w).ttl now (label_for i (table_of w).held) (table_of w).entries % 2 ^ 64 →
-        T (header_at w) (records_at (limits_of w)) (label_for i (table_of w).held)) → T h p a
+        T (header_at w)) → T h
     after_hand T t =
-        as_labelled w (length b) holds from i labelled
-        (λ h p a. TakesOut h.limits.ttl now a p h.figures w w₁ r → HandsOut p r.records
+        as_labelled w (length b) holds i labelled
+        (λ h a. TakesOut h now a w w₁ r → HandsOut (records_at h.limits) r.records
         (record { key = i; label = a; count = r.apart }) w₁ w₂ c →
-        m.bytes ≡ live_lens h.limits.ttl now a (entries_from w entries_at h.figures.entries) % 2 ^ 64 → T h p a) t out
+        m.bytes ≡ live_lens h.limits.ttl now a (entries_from w entries_at h.figures.entries) % 2 ^ 64 → T h) t out
         hand (ap (λ (x : LiveFigures). x.bytes) read)
 
     pub settling : Settling h.figures.entries n r.entries r.bytes m.bytes w₂
     settling =
-        after_hand (λ h p a. Settling h.figures.entries n r.entries r.bytes m.bytes w₂)
+        after_hand (λ h. Settling h.figures.entries n r.entries r.bytes m.bytes w₂)
         (λ o k u. record {
           less_handed = handed_few w b holds.legal handed;
           less_left = left_few w b i now holds.legal o id k long handed u;
@@ -101,37 +97,36 @@ module _ (w b : List ℕ) (i now : ℕ) {h : Header} (holds : HoldsCache h w (le
         })
 
     -- the header that is written
-    abbrev Written : Header → ℕ → ℕ → List ℕ → Type 0
-    Written h d t w₃ =
+    abbrev Written : Header → ℕ → List ℕ → Type 0
+    Written h d w₃ =
         w₃ ≡ overwritten w₂ (header_of h.limits (record {
           cached = h.figures.cached;
           dropped = d;
-          total = t;
+          total = r.bytes - m.bytes;
           templates = r.records;
           entries = r.entries;
           chance = c;
         }))
 
-    pub drain_done : {d t : ℕ} {w₃ : List ℕ} → d ≡ raised h.figures.dropped (h.figures.entries - n - r.entries) →
-        t ≡ r.bytes - m.bytes → Written h d t w₃ →
+    pub drain_done : {d : ℕ} {w₃ : List ℕ} → d ≡ raised h.figures.dropped (h.figures.entries - n - r.entries) →
+        Written h d w₃ →
         Does (drained i now) (cache_of (table_of w) b) (areas_of w b) (count r.apart) (areas_of w₃ b)
     unfolding overwritten
-    drain_done {d} {t} {w₃} dropped total written =
+    drain_done {d} {w₃} dropped written =
         after_hand
-        (λ h p a. d ≡ raised h.figures.dropped (h.figures.entries - n - r.entries) → t ≡ r.bytes - m.bytes →
-        Written h d t w₃ →
+        (λ h. d ≡ raised h.figures.dropped (h.figures.entries - n - r.entries) → Written h d w₃ →
         Does (drained i now) (cache_of (table_of w) b) (areas_of w b) (count r.apart) (areas_of w₃ b))
-        (λ o k u x y z. rw (z, x, y) (drain_does w b i now holds.legal o id k long handed u)) dropped total written
+        (λ o k u x y. rw (y, x) (drain_does w b i now holds.legal o id k long handed u)) dropped written
 
 -- the call, behind the test of 28
-module _ (w b : List ℕ) (i now : ℕ) {v : Bool} (tested : v ≡ well_formed w (length b)) where
-  pub drain_damaged : v ≡ false → Drains i now (areas_of w b) (Err (record {})) (areas_of w b)
-  drain_damaged h = record {
-    performs = damaged_performs w b tested (drained i now) h;
+module _ (w b : List ℕ) (i now : ℕ) where
+  pub drain_damaged : well_formed w (length b) ≡ false → Drains i now (areas_of w b) (Err (record {})) (areas_of w b)
+  drain_damaged damaged = record {
+    performs = damaged_performs w b (drained i now) damaged;
     frame = untouched_all _ _ _;
   }
 
-  pub drain_handed : {w' b' : List ℕ} {n : ℕ} → v ≡ true →
+  pub drain_handed : {h : Header} → HoldsCache h w (length b) → {w' b' : List ℕ} {n : ℕ} →
       Does (drained i now) (cache_of (table_of w) b) (areas_of w b) (count n) (areas_of w' b') →
       Drains i now (areas_of w b) (Ok n) (areas_of w' b')
-  drain_handed h d = record { performs = performed w b tested (drained i now) h d; frame = d.frame }
+  drain_handed holds d = record { performs = performed w b (drained i now) holds.legal d; frame = d.frame }

@@ -1,5 +1,4 @@
 -- The record of what is handed out, and the removal before. Assumes nothing.
-use Rattle.std.proofs.Common.{Option}
 use mathlib.Core.Path.{◌≡◌, refl, subst}
 use mathlib.Core.List.{List}
 use Prim.Native.Nat.{ℕ, ◌+◌, ◌*◌}
@@ -7,10 +6,11 @@ use native.Mathlib.Omega.{arith}
 use lib.ListN.{length, length-replicate}
 use Rattle.config.specs.Limits.{record_words}
 use Rattle.table.specs.declared.TemplateRecord.{TemplateRecord}
+use Rattle.table.specs.Layout.{records_at}
 use Rattle.table.specs.Table.{records_from}
 use Rattle.table_records.specs.Add.{Adds}
 use Rattle.table_records.specs.Choose.{set_each, skipping}
-use Rattle.pending_flows.specs.declared.header.HeaderFigures.{HeaderFigures}
+use Rattle.pending_flows.specs.declared.header.Header.{Header}
 use Rattle.pending_calls.specs.declared.removal.Removed.{Removed}
 use Rattle.pending_calls.specs.Removal.{unexpired, Removes}
 use Rattle.pending_drain.specs.Handing.{zeros, TakesOut, HandsOut}
@@ -26,15 +26,16 @@ module _ (p k : ℕ) (t : TemplateRecord) (w : List ℕ) where
   some_handed n a = record { nothing = λ e. absurd (n e); some = λ _. (refl, a) }
 
 -- where nothing is handed out, nothing is skipped
-pub nothing_skipped : (p : ℕ) (f : HeaderFigures) (w : List ℕ) → f.chance ≡ 0 →
-    zeros ≡ skipping zeros (records_from w (p + record_words * f.templates) f.chance)
+pub nothing_skipped : (h : Header) (w : List ℕ) → h.figures.chance ≡ 0 →
+    zeros ≡ skipping zeros (records_from w (records_at h.limits + record_words * h.figures.templates) h.figures.chance)
 unfolding set_each records_from
-nothing_skipped p f w none = rw none
+nothing_skipped h w none = rw none
 
-pub taken_out : (ttl : Option ℕ) (clock label p : ℕ) (f : HeaderFigures) (w w' : List ℕ) (r : Removed) {skip : List ℕ} →
-    skip ≡ skipping zeros (records_from w (p + record_words * f.templates) f.chance) →
-    Removes (unexpired ttl clock label) p (f.templates + f.chance) f.entries label skip w w' r →
-    TakesOut ttl clock label p f w w' r
-taken_out ttl clock label p f w w' r e d =
-    subst (λ (skip : List ℕ). Removes (unexpired ttl clock label) p (f.templates + f.chance) f.entries label skip
-    w w' r) e d
+pub taken_out : (h : Header) (clock label : ℕ) (w w' : List ℕ) (r : Removed) {skip : List ℕ} →
+    skip ≡ skipping zeros (records_from w (records_at h.limits + record_words * h.figures.templates) h.figures.chance) →
+    Removes (unexpired h.limits.ttl clock label) (records_at h.limits) (h.figures.templates + h.figures.chance)
+    h.figures.entries label skip w w' r →
+    TakesOut h clock label w w' r
+taken_out h clock label w w' r e d =
+    subst (λ (skip : List ℕ). Removes (unexpired h.limits.ttl clock label) (records_at h.limits)
+    (h.figures.templates + h.figures.chance) h.figures.entries label skip w w' r) e d

@@ -1,6 +1,6 @@
 -- A drain where no body goes: it takes out the record of the label alone. Assumes nothing.
 use Rattle.std.proofs.Common.{Option, Some}
-use mathlib.Core.Path.{◌≡◌, refl, sym, ◌∙◌}
+use mathlib.Core.Path.{◌≡◌, sym, ◌∙◌}
 use mathlib.Core.Bool.{Bool, true, false, cond}
 use mathlib.Core.List.{List, [], ◌∷◌, ◌++◌}
 use Prim.Native.Nat.{ℕ, ◌+◌, ◌≤◌, ◌<◌}
@@ -48,64 +48,62 @@ counts_label i es (r ∷ rs) right none = by_key (eqb i r.key) (counts_label i e
     by_key true ih = right.0
     by_key false ih = ih
 
-module _ (w b : List ℕ) (i : ℕ) {h : Header} (holds : HoldsCache h w (length b)) {p : ℕ}
-    (from : p ≡ records_at h.limits) {x : Option ℕ} (labelled : x ≡ label_of i (records_from w p h.figures.templates))
-  where
-    abbrev a : ℕ
-    a = label_or_none x
+module _ (w b : List ℕ) (i : ℕ) {h : Header} (holds : HoldsCache h w (length b)) {x : Option ℕ}
+    (labelled : x ≡ label_of i (records_from w (records_at h.limits) h.figures.templates)) where
+  abbrev a : ℕ
+  a = label_or_none x
 
-    legal : LegalWords w (length b)
-    legal = words_say w (length b) holds.legal
+  legal : LegalWords w (length b)
+  legal = words_say w (length b) holds.legal
 
-    abbrev es : List Entry
-    es = (table_of w).entries
+  abbrev es : List Entry
+  es = (table_of w).entries
 
-    abbrev held : List TemplateRecord
-    held = (table_of w).held
+  abbrev held : List TemplateRecord
+  held = (table_of w).held
 
-    labels_small : All (λ e. e.label < 1024) es
-    labels_small =
-        let tied = words_tied w (length b) legal in
-        entries_small (held ++ (table_of w).handed) es tied.labels_small tied.labels_known
+  labels_small : All (λ e. e.label < 1024) es
+  labels_small =
+      let tied = words_tied w (length b) legal in
+      entries_small (held ++ (table_of w).handed) es tied.labels_small tied.labels_known
 
-    id_counted : count_of i (records_from w p h.figures.templates) ≡ tally a (entries_from w entries_at h.figures.entries)
-    id_counted =
-        rw labelled
-        (as_read w (length b) holds from
-        (λ h p. count_of i (records_from w p h.figures.templates)
-        ≡ tally (label_for i (records_from w p h.figures.templates)) (entries_from w entries_at h.figures.entries))
-        (rw (← first_records w (records_at (limits_of w)) (held_count w) (chance_count w))
-        (counts_label i es held
-        (all_front _ held (table_of w).handed (words_tied w (length b) legal).counts_right)
-        (none_above es labels_small))))
+  id_counted : count_of i (records_from w (records_at h.limits) h.figures.templates)
+      ≡ tally a (entries_from w entries_at h.figures.entries)
+  id_counted =
+      rw labelled
+      (as_read w (length b) holds
+      (λ h. count_of i (records_from w (records_at h.limits) h.figures.templates)
+      ≡ tally (label_for i (records_from w (records_at h.limits) h.figures.templates))
+      (entries_from w entries_at h.figures.entries))
+      (rw (← first_records w (records_at (limits_of w)) (held_count w) (chance_count w))
+      (counts_label i es held
+      (all_front _ held (table_of w).handed (words_tied w (length b) legal).counts_right)
+      (none_above es labels_small))))
 
-    module _ (clock : ℕ) {live : ℕ} (read : live ≡ live_count h.limits.ttl clock a (entries_from w entries_at h.figures.entries))
-        {v : Bool} (certain : v ≡ true → NothingGoes h.figures.chance (count_of i (records_from w p h.figures.templates)) live)
-        (said : v ≡ true) where
-      none : NothingGoes h.figures.chance (count_of i (records_from w p h.figures.templates)) live
-      none = certain said
+  module _ (clock : ℕ) {live : ℕ} (read : live ≡ live_count h.limits.ttl clock a (entries_from w entries_at h.figures.entries))
+      (none : NothingGoes h.figures.chance (count_of i (records_from w (records_at h.limits) h.figures.templates)) live) where
+    all_live : live_count h.limits.ttl clock a (entries_from w entries_at h.figures.entries)
+        ≡ tally a (entries_from w entries_at h.figures.entries)
+    all_live = sym read ∙ sym none.all_live ∙ id_counted
 
-      all_live : live_count h.limits.ttl clock a (entries_from w entries_at h.figures.entries)
-          ≡ tally a (entries_from w entries_at h.figures.entries)
-      all_live = sym read ∙ sym none.all_live ∙ id_counted
+    kept_whole : swept (unexpired h.limits.ttl clock a) zeros (entries_from w entries_at h.figures.entries)
+        ≡ entries_from w entries_at h.figures.entries
+    kept_whole =
+        let q : StayTest = unexpired h.limits.ttl clock a in
+        let rows : entries_from w entries_at h.figures.entries ≡ es = rw holds.figures in
+        rw rows
+        (none_skipped q es labels_small (all_stay q es
+        (none_expired h.limits.ttl clock a es (rw rows at all_live)) (entries_short w (length b) holds.legal)))
 
-      kept_whole : swept (unexpired h.limits.ttl clock a) zeros (entries_from w entries_at h.figures.entries)
-          ≡ entries_from w entries_at h.figures.entries
-      kept_whole =
-          let q : StayTest = unexpired h.limits.ttl clock a in
-          let rows : entries_from w entries_at h.figures.entries ≡ es = rw holds.figures in
-          rw rows
-          (none_skipped q es labels_small (all_stay q es refl
-          (none_expired h.limits.ttl clock a es (rw rows at all_live)) (entries_short w (length b) holds.legal)))
-
-      pub none_taken : {w' : List ℕ} {r : Removed} →
-          RemovesFrom everything a zeros w w' r →
-          TakesOut h.limits.ttl clock a p h.figures w w' r
-      none_taken {w'} {r} done =
-          let whole : swept everything zeros (entries_from w entries_at h.figures.entries)
-          ≡ entries_from w entries_at h.figures.entries =
-          rw holds.figures (all_swept_stay w (length b) holds.legal) in
-          taken_out h.limits.ttl clock a p h.figures w w' r (nothing_skipped p h.figures w none.hands_none)
-          (removes_alike (whole ∙ sym kept_whole)
-          (as_read w (length b) holds from
-          (λ h p. Removes everything p (h.figures.templates + h.figures.chance) h.figures.entries a zeros w w' r) done))
+    pub none_taken : {w' : List ℕ} {r : Removed} →
+        RemovesFrom everything a zeros w w' r →
+        TakesOut h clock a w w' r
+    none_taken {w'} {r} done =
+        let whole : swept everything zeros (entries_from w entries_at h.figures.entries)
+        ≡ entries_from w entries_at h.figures.entries =
+        rw holds.figures (all_swept_stay w (length b) holds.legal) in
+        taken_out h clock a w w' r (nothing_skipped h w none.hands_none)
+        (removes_alike (whole ∙ sym kept_whole)
+        (as_read w (length b) holds
+        (λ h. Removes everything (records_at h.limits) (h.figures.templates + h.figures.chance) h.figures.entries a
+        zeros w w' r) done))

@@ -26,10 +26,10 @@ use Rattle.pending_drain.proofs.Handing.{nothing_skipped, taken_out}
 use Rattle.pending_drain.proofs.LegalRows.{bodies_within, bodies_short, entries_few, handed_single}
 use Rattle.pending_drain.proofs.DrainedRows as Rows
 
-module _ (w b : List ℕ) (i : ℕ) {h : Header} (holds : HoldsCache h w (length b)) {p : ℕ}
-    (from : p ≡ records_at h.limits) {x : Option ℕ} (labelled : x ≡ label_of i (records_from w p h.figures.templates))
-    (clock : ℕ) {skip : List ℕ}
-    (skips : skip ≡ skipping zeros (records_from w (p + record_words * h.figures.templates) h.figures.chance)) where
+module _ (w b : List ℕ) (i : ℕ) {h : Header} (holds : HoldsCache h w (length b)) {x : Option ℕ}
+    (labelled : x ≡ label_of i (records_from w (records_at h.limits) h.figures.templates)) (clock : ℕ) {skip : List ℕ}
+    (skips : skip ≡ skipping zeros (records_from w (records_at h.limits + record_words * h.figures.templates)
+    h.figures.chance)) where
   abbrev a : ℕ
   a = label_or_none x
 
@@ -51,8 +51,9 @@ module _ (w b : List ℕ) (i : ℕ) {h : Header} (holds : HoldsCache h w (length
   skips_handed : skip ≡ skipping zeros handed
   skips_handed =
       skips
-      ∙ as_read w (length b) holds from
-      (λ h p. skipping zeros (records_from w (p + record_words * h.figures.templates) h.figures.chance) ≡ skipping zeros handed)
+      ∙ as_read w (length b) holds
+      (λ h. skipping zeros (records_from w (records_at h.limits + record_words * h.figures.templates) h.figures.chance)
+      ≡ skipping zeros handed)
       (ap (skipping zeros) (sym (records_behind w (records_at (limits_of w)) (held_count w) (chance_count w))))
 
   pub skips_whole : SkipsWhole skip (records w)
@@ -66,8 +67,8 @@ module _ (w b : List ℕ) (i : ℕ) {h : Header} (holds : HoldsCache h w (length
       live ≡ tally a (swept (unexpired h.limits.ttl clock a) skip (entries_from w entries_at h.figures.entries))
   live_stay live read =
       read
-      ∙ as_labelled w (length b) holds from i labelled
-      (λ h p a. live_count h.limits.ttl clock a (entries_from w entries_at h.figures.entries)
+      ∙ as_labelled w (length b) holds i labelled
+      (λ h a. live_count h.limits.ttl clock a (entries_from w entries_at h.figures.entries)
       ≡ tally a (swept (unexpired h.limits.ttl clock a) skip (entries_from w entries_at h.figures.entries)))
       (rw skips_handed
       (Rows.drained_live_count b (limits_of w).ttl i clock held handed es tied (bodies_within w b legal)
@@ -79,19 +80,19 @@ module _ (w b : List ℕ) (i : ℕ) {h : Header} (holds : HoldsCache h w (length
   live_told test live read = rw test (refl, live_stay live read)
 
   pub some_taken : {q : StayTest} → q ≡ unexpired h.limits.ttl clock a → {w' : List ℕ} {r : Removed} →
-      RemovesFrom q a skip w w' r → TakesOut h.limits.ttl clock a p h.figures w w' r
+      RemovesFrom q a skip w w' r → TakesOut h clock a w w' r
   some_taken {q} test {w'} {r} done =
-      taken_out h.limits.ttl clock a p h.figures w w' r skips
-      (rw test at (as_read w (length b) holds from
-      (λ h p. Removes q p (h.figures.templates + h.figures.chance) h.figures.entries a skip w w' r) done))
+      taken_out h clock a w w' r skips
+      (rw test at (as_read w (length b) holds
+      (λ h. Removes q (records_at h.limits) (h.figures.templates + h.figures.chance) h.figures.entries a skip w w' r)
+      done))
 
 -- where nothing is handed out, only expired bodies of the label go
-module _ (w : List ℕ) (n : ℕ) {h : Header} (holds : HoldsCache h w n) {p : ℕ} (from : p ≡ records_at h.limits)
-    (none : h.figures.chance ≡ 0) where
+module _ (w : List ℕ) (n : ℕ) {h : Header} (holds : HoldsCache h w n) (none : h.figures.chance ≡ 0) where
   pub expired_taken : (clock a : ℕ) {w' : List ℕ} {r : Removed} →
-      RemovesFrom (unexpired h.limits.ttl clock a) a zeros w w' r → TakesOut h.limits.ttl clock a p h.figures w w' r
+      RemovesFrom (unexpired h.limits.ttl clock a) a zeros w w' r → TakesOut h clock a w w' r
   expired_taken clock a {w'} {r} done =
-      taken_out h.limits.ttl clock a p h.figures w w' r (nothing_skipped p h.figures w none)
-      (as_read w n holds from
-      (λ g p. Removes (unexpired h.limits.ttl clock a) p (g.figures.templates + g.figures.chance) g.figures.entries a
-      zeros w w' r) done)
+      taken_out h clock a w w' r (nothing_skipped h w none)
+      (as_read w n holds
+      (λ g. Removes (unexpired h.limits.ttl clock a) (records_at g.limits) (g.figures.templates + g.figures.chance)
+      g.figures.entries a zeros w w' r) done)

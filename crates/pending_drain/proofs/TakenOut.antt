@@ -28,7 +28,7 @@ use Rattle.table_records.specs.Close.{closed}
 use Rattle.table_records.specs.Choose.{skip_all, skipping}
 use Rattle.cache_model.specs.Bodies.{Body, size, sum_bodies, without}
 use Rattle.cache_model.specs.Cache.{Cache}
-use Rattle.pending_flows.specs.Header.{figures_at}
+use Rattle.pending_flows.specs.Header.{header_at}
 use Rattle.pending_flows.specs.View.{bodies_at, templates_at, cache_of}
 use Rattle.table_view.proofs.Tied.{Tied, words_tied, none_above}
 use Rattle.table_view.proofs.Swept.{Within}
@@ -98,7 +98,7 @@ module _ (w b : List ℕ) (i now : ℕ) where
     single : length handed ≤ 1
     single = handed_single w b legal
 
-    module _ {w' : List ℕ} {r : Removed} (taken : TakesOut l.ttl now label p (figures_at w) w w' r) where
+    module _ {w' : List ℕ} {r : Removed} (taken : TakesOut (header_at w) now label w w' r) where
       out : Removes test p (n + chance_count w) (entry_count w) label (skipping zeros handed) w w' r
       out = rw (records_behind w p n (chance_count w)) taken
 

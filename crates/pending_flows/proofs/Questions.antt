@@ -1,25 +1,37 @@
 -- What a query or a call may read of a well-formed table. Assumes nothing.
+use Rattle.std.proofs.Common.{Result, Ok, Err}
 use mathlib.Core.Path.{◌≡◌, ap, sym, ◌∙◌}
-use mathlib.Core.Bool.{Bool, true}
+use mathlib.Core.Bool.{true, false}
 use mathlib.Core.List.{List, ◌++◌}
+use mathlib.Core.Option.{none, some}
 use Prim.Native.Nat.{ℕ, ◌+◌, ◌*◌, ◌≤◌}
 use native.Mathlib.Omega.{arith}
 use lib.ListN.{length}
 use Rattle.config.specs.declared.PendingFlowsConfig.{PendingFlowsConfig}
 use Rattle.config.specs.Limits.{header_words, record_words, entry_words, max_bodies}
 use Rattle.config.proofs.Lists.{all_map}
+use Rattle.table.specs.declared.Damaged.{Damaged}
 use Rattle.table.specs.Layout.{limits_of, held_count, entry_count, records_at}
 use Rattle.table.specs.Table.{table_of, tally}
 use Rattle.table.specs.WellFormed.{well_formed}
 use Rattle.table.proofs.Facts.{LegalWords, words_say}
 use Rattle.table.proofs.Labels.{absent_tally}
+use Rattle.table_watch.specs.declared.Sought.{Sought}
+use Rattle.table_watch.specs.declared.LabelSeen.{LabelSeen}
+use Rattle.table_watch.proofs.Verdicts.{is_damaged, is_legal}
+use Rattle.table_check.specs.Examined.{examined}
 use Rattle.pending_flows.specs.declared.header.Header.{Header}
 use Rattle.pending_flows.specs.Header.{HoldsCache, header_at}
+use Rattle.pending_flows.specs.View.{areas_of, cache_of, view}
 pub use Rattle.table.proofs.Words.{first_records}
 
--- what was tested is known
-pub well_formed_lem : (w : List ℕ) (n : ℕ) {v : Bool} → v ≡ well_formed w n → v ≡ true → well_formed w n ≡ true
-well_formed_lem w n e h = sym e ∙ h
+-- the areas were examined: x is what was answered
+module _ (w : List ℕ) (n : ℕ) (sought : Sought) {x : Result LabelSeen Damaged} (tested : x ≡ examined w n sought) where
+  pub seen_damaged : x ≡ Err (record {}) → well_formed w n ≡ false
+  seen_damaged e = sym (is_damaged (well_formed w n) _ tested e)
+
+  pub seen_legal : {s : LabelSeen} → x ≡ Ok s → well_formed w n ≡ true
+  seen_legal e = sym (is_legal (well_formed w n) _ tested e)
 
 -- the header that is read of a well-formed cache is its header
 pub header_read : (w : List ℕ) (n : ℕ) {h : Header} → well_formed w n ≡ true → h ≡ header_at w → HoldsCache h w n
@@ -28,6 +40,19 @@ header_read w n ok e = record {
   limits = ap (λ (h : Header). h.limits) e;
   figures = ap (λ (h : Header). h.figures) e;
 }
+
+pub header_is : (w : List ℕ) (n : ℕ) {h : Header} → HoldsCache h w n → h ≡ header_at w
+header_is w n holds = λ j. record { limits = holds.limits j; figures = holds.figures j }
+
+-- what the areas stand for
+module _ (w b : List ℕ) where
+  pub view_none : well_formed w (length b) ≡ false → view (areas_of w b) ≡ none
+  unfolding view
+  view_none damaged = rw damaged
+
+  pub view_some : well_formed w (length b) ≡ true → view (areas_of w b) ≡ some (cache_of (table_of w) b)
+  unfolding view
+  view_some ok = rw ok
 
 -- what the words of a well-formed table hold is within them, and what is no label is no entry's
 module _ (w : List ℕ) (n : ℕ) (ok : well_formed w n ≡ true) where

@@ -1,8 +1,9 @@
 -- The header of a cache: the first words, in the layout's order.
 use Rattle.std.specs.Prelude.{Option, Some, None}
-use Rattle.std.specs.Prelude.{◌≡◌, List, [], ◌∷◌, ℕ, true}
+use Rattle.std.specs.Prelude.{◌≡◌, List, [], ◌∷◌, ℕ, ◌+◌, ◌*◌, ◌≤◌, true, length}
 use Rattle.config.specs.declared.PendingFlowsConfig.{PendingFlowsConfig}
-use Rattle.table.specs.Layout.{limits_of, cached_word, dropped_word, total_word, held_count, entry_count, chance_count}
+use Rattle.config.specs.Limits.{record_words, entry_words, max_bodies}
+use Rattle.table.specs.Layout.{entries_at, records_at, limits_of, cached_word, dropped_word, total_word, held_count, entry_count, chance_count}
 use Rattle.table.specs.WellFormed.{well_formed}
 use Rattle.pending_flows.specs.declared.header.HeaderFigures.{HeaderFigures}
 use Rattle.pending_flows.specs.declared.header.Header.{Header}
@@ -40,6 +41,12 @@ pub record HoldsCache (h : Header) (w : List ℕ) (bytes : ℕ) : Type 0 where
   pub legal : well_formed w bytes ≡ true
   pub limits : h.limits ≡ limits_of w
   pub figures : h.figures ≡ figures_at w
+
+-- the entries and records that a header tells of lie within the words
+pub record HoldsRows (h : Header) (w : List ℕ) : Type 0 where
+  pub bodies_few : max_bodies h.limits ≤ 262144
+  pub entries_within : entries_at + entry_words * h.figures.entries ≤ length w
+  pub records_within : records_at h.limits + record_words * (h.figures.templates + h.figures.chance) ≤ length w
 
 -- the header's words
 abbrev pub header_of : PendingFlowsConfig → HeaderFigures → List ℕ

@@ -9,6 +9,7 @@ use config::{PendingFlowsConfig, RECORD_WORDS};
 use table::{CHANCE_COUNT, HELD_COUNT, record_at, records_at};
 
 // How many handed-out bodies may still be put back.
+// The limits alone: a header's clause would ask more of those that call it.
 pub fn handed_count(words: &[u64], bytes: &[u8], limits: PendingFlowsConfig) -> u64
     requires { (well_formed words.now (length bytes.now) ≡ true) × (limits ≡ limits_of words.now) }
     ensures { result ≡ count_sum (table_of words.now).handed }

@@ -1,11 +1,13 @@
 // The header of a cache: its limits and its figures.
-ghost use Rattle.std.specs.Prelude.{◌≡◌, ◌≤◌, length};
+ghost use Rattle.std.specs.Prelude.{◌≡◌, ◌≤◌, false, length, MatchResult};
 ghost use Rattle.areas.specs.Overwrite.{overwritten};
 ghost use Rattle.config.specs.Limits.{header_words};
-ghost use Rattle.pending_flows.specs.Header.{ttl_flag, ttl_word, header_at, words_of};
+ghost use Rattle.table.specs.WellFormed.{well_formed};
+ghost use Rattle.pending_flows.specs.Header.{header_at, words_of, HoldsCache};
 
 use config::PendingFlowsConfig;
-use table::{CACHED, CHANCE_COUNT, DROPPED, ENTRY_COUNT, HELD_COUNT, TOTAL, limits_at};
+use table::{CACHED, CHANCE_COUNT, DROPPED, Damaged, ENTRY_COUNT, HELD_COUNT, TOTAL, limits_at};
+use table_watch::Sought;
 
 // The header's words behind the limits.
 #[derive(Clone, Copy)]
@@ -17,20 +19,6 @@ pub struct HeaderFigures {
     pub templates: u64,
     pub entries: u64,
     pub chance: u64,
-}
-
-// Whether a TTL is set, as a word.
-fn ttl_set(ttl: Option<u64>) -> u64
-    ensures { result ≡ ttl_flag ttl }
-{
-    ttl.is_some() as u64
-}
-
-// The TTL, or 0 where none is set.
-fn ttl_word(ttl: Option<u64>) -> u64
-    ensures { result ≡ ttl_word ttl }
-{
-    ttl.unwrap_or(0)
 }
 
 // What the header says.
@@ -58,6 +46,16 @@ impl Header {
         Header { limits, figures }
     }
 
+    // The header of the cache that the areas hold, or that they hold none.
+    #[tactic(auto, using(crate::proofs::Questions::seen_damaged, crate::proofs::Questions::seen_legal, crate::proofs::Questions::header_within, crate::proofs::Questions::header_read))]
+    pub fn of_cache(words: &[u64], bytes: &[u8]) -> Result<Self, Damaged>
+        ensures { MatchResult result (λ header. HoldsCache header words.now (length bytes.now))
+            (λ _. well_formed words.now (length bytes.now) ≡ false) }
+    {
+        table_check::examine(words, bytes.len(), Sought::Nothing)?;
+        Ok(Header::read(words))
+    }
+
     // Writes it to the front of the words.
     #[tactic(auto, using(crate::proofs::Openings::header_written))]
     pub fn write(self, words: &mut [u64])
@@ -71,8 +69,8 @@ impl Header {
             limits.max_entries_per_template as u64,
             limits.max_entry_size_bytes as u64,
             limits.max_total_bytes as u64,
-            ttl_set(ttl),
-            ttl_word(ttl),
+            ttl.is_some() as u64,
+            ttl.unwrap_or(0),
             figures.cached,
             figures.dropped,
             figures.total,

@@ -4,6 +4,7 @@
 mod chance;
 mod header;
 mod opening;
+mod rows;
 
 pub use chance::handed_count;
 pub use header::{Header, HeaderFigures};

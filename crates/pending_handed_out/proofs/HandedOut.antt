@@ -37,8 +37,8 @@ use Rattle.pending_queries.specs.Queries.{asked}
 use Rattle.pending_handed_out.specs.HandedOut.{shown, place_number, place_answer, PlacesHandedOut}
 use Rattle.pending_handed_out.specs.HandedOut.{ReadsHandedOut}
 use Rattle.pending_flows.proofs.Templates.{no_bodies}
-use Rattle.pending_flows.proofs.Questions.{none_unlabelled}
-use Rattle.pending_queries.proofs.Answers.{answered, seen_damaged, seen_legal}
+use Rattle.pending_flows.proofs.Questions.{seen_damaged, seen_legal, none_unlabelled}
+use Rattle.pending_queries.proofs.Answers.{damaged, answered}
 
 module _ (bytes : List ℕ) where
   -- the n-th body of a label, by the n-th entry
@@ -140,7 +140,7 @@ module _ (w b : List ℕ) (k : ℕ) (r : Option Entry) (ok : well_formed w (leng
 module _ (w b : List ℕ) (k : ℕ) {x : Result LabelSeen Damaged} {s : LabelSeen} {r : Option Entry}
     (tested : x ≡ examined w (length b) (Sought.HandedOut k)) (seen : x ≡ Ok s) (is : r ≡ s.found) where
   ok : well_formed w (length b) ≡ true
-  ok = seen_legal w b (Sought.HandedOut k) tested seen
+  ok = seen_legal w (length b) (Sought.HandedOut k) tested seen
 
   found : Finds w b k r
   unfolding seen_by watch_for
@@ -149,7 +149,7 @@ module _ (w b : List ℕ) (k : ℕ) {x : Result LabelSeen Damaged} {s : LabelSee
       (is ∙ ap (λ (y : LabelSeen). y.found) (is_seen (well_formed w (length b)) _ tested seen))
 
   said : place_handed_out k (cache_of (table_of w) b) ≡ asked (place_handed_out k) (view (areas_of w b))
-  said = answered (place_handed_out k) w b refl ok
+  said = answered (place_handed_out k) w b ok
 
   same_cache : (c : Cache) → view (areas_of w b) ≡ some c → cache_of (table_of w) b ≡ c
   unfolding view
@@ -201,7 +201,7 @@ module _ (w b : List ℕ) (k : ℕ) {x : Result LabelSeen Damaged} {s : LabelSee
 pub place_damaged : (w b : List ℕ) (k : ℕ) {x : Result LabelSeen Damaged} → x ≡ examined w (length b) (Sought.HandedOut k) →
     x ≡ Err (record {}) → PlacesHandedOut (areas_of w b) k (Err Refusal.Damaged) (areas_of w b)
 place_damaged w b k tested e = record {
-  answer = seen_damaged w b (Sought.HandedOut k) tested (place_handed_out k) e;
+  answer = damaged (place_handed_out k) w b (seen_damaged w (length b) (Sought.HandedOut k) tested e);
   within = λ p g. other p g;
   inside = λ p g. other p g;
   holds = λ p c g v. other p g;

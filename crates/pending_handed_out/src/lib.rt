@@ -44,14 +44,13 @@ impl From<PlaceRefusal> for u32 {
 }
 
 // The place and length of handed-out body k.
+#[tactic(auto, using(crate::proofs::HandedOut::place_damaged, crate::proofs::HandedOut::not_handed_out))]
 pub fn place_handed_out(words: &[u64], bytes: &[u8], k: usize) -> Result<BodyPlace, PlaceRefusal>
     ensures { PlacesHandedOut (areas_of words.now bytes.now) k result
         (areas_of words.now bytes.now) }
 {
     let seen = table_check::examine(words, bytes.len(), Sought::HandedOut(k))?;
-    let Some(entry) = seen.found else {
-        return Err(PlaceRefusal::NotHandedOut);
-    };
+    let entry = seen.found.ok_or(PlaceRefusal::NotHandedOut)?;
     Ok(BodyPlace {
         place: entry.place as usize,
         len: entry.len as usize,
@@ -59,6 +58,7 @@ pub fn place_handed_out(words: &[u64], bytes: &[u8], k: usize) -> Result<BodyPla
 }
 
 // Handed-out body k, as a part of the byte area; an empty part where the call beside it answers 27 or 28.
+// No Result: by document 01 a refused reading shows an empty part, and the call beside it answers the number.
 pub fn read_handed_out<'a>(words: &[u64], bytes: &'a [u8], k: usize) -> &'a [u8]
     ensures { ReadsHandedOut (areas_of words.now bytes.now) k result.now
         (areas_of words.now bytes.now) }

@@ -24,13 +24,14 @@ use Rattle.table_entries.specs.Pack.{last_end, packed_entries, packed_end}
 use Rattle.table_entries.proofs.Packed.{packed_placed, last_packed, packed_again}
 use Rattle.table_records.proofs.Frames.{records_above, index_above}
 use Rattle.pending_flows.specs.declared.header.Header.{Header}
-use Rattle.pending_flows.specs.Header.{HoldsCache}
 use Rattle.pending_calls.specs.declared.removal.Removed.{Removed}
 use Rattle.pending_calls.proofs.RemovedLemmas.{entries_below_records}
 use Rattle.offer_plan.specs.declared.plan.OfferPlan.{OfferPlan}
 use Rattle.offer_plan.specs.Plan.{Plans}
 use Rattle.offer_steps.specs.Room.{fits_behind, RoomFor, AddsBody, ChoosesLabel}
 use Rattle.packed_removal.specs.ForBody.{PacksFor, LeftFor, RemovesForBody}
+use Rattle.pending_offer.specs.Promises.{FitsEntry}
+use Rattle.pending_offer.proofs.Offered.{fits_small}
 use Rattle.pending_offer.proofs.Accepted.{Accepting}
 
 -- packed for a body: m entries, with k records behind them
@@ -133,19 +134,19 @@ label_left w n ok {l} limits {r = r} done chosen =
 
 -- what is known once the label is chosen
 pub accepting : (w b : List ℕ) {h : Header} {i : ℕ} {body : List ℕ} {clock : ℕ} {plan : OfferPlan} {w' b' : List ℕ}
-    {r : Removed} {a : ℕ} → HoldsCache h w (length b) → length body ≤ (limits_of w).max_entry_size_bytes →
-    Plans w b i (length body) clock plan × ((plan.full ≡ false) × (i < 65536)) →
+    {r : Removed} {a : ℕ} → FitsEntry h body w (length b) → i < 65536 →
+    Plans w b i (length body) clock plan × (plan.full ≡ false) →
     (done : RemovesForBody clock plan (label_or_none plan.label) (length body) w b w' b' r) →
     {p : ℕ} → p ≡ records_at h.limits → (parts : List (List ℕ)) → templates_of parts ≡ records_from w' p r.records →
     ChoosesLabel plan.label (templates_of parts) a →
     Accepting w b h i body clock plan done.unpacked r a
-accepting w b holds small plans done from parts rows chosen = record {
-  holds = holds;
-  id = plans.1.1;
-  small = small;
+accepting w b fits id plans done from parts rows chosen = record {
+  holds = fits.cache;
+  id = id;
+  small = fits_small fits;
   plans = plans.0;
-  room = plans.1.0;
+  room = plans.1;
   removed = done.removes;
   long = done.removes.long;
-  label = label_left w (length b) holds.legal holds.limits done (rw (rows, from) at chosen);
+  label = label_left w (length b) fits.cache.legal fits.cache.limits done (rw (rows, from) at chosen);
 }

@@ -47,7 +47,7 @@ use Rattle.pending_calls.proofs.RemovedLemmas.{bytes_left, rows_placed, few_temp
 use Rattle.offer_plan.specs.declared.plan.OfferPlan.{OfferPlan}
 use Rattle.offer_plan.specs.Plan.{plan_test, skip_of, Plans}
 use Rattle.offer_plan.proofs.Skips.{skips_long}
-use Rattle.planned_removal.specs.Planned.{RemovesPlanned}
+use Rattle.planned_removal.specs.Planned.{PlannedAll, RemovesPlanned}
 
 -- the entries that stay by a plan
 abbrev pub staying : List ℕ → ℕ → OfferPlan → List Entry
@@ -124,7 +124,7 @@ module _ (w b : List ℕ) (ok : well_formed w (length b) ≡ true) (clock : ℕ)
             )
 
     -- so where every body stays, nothing is handed out
-    pub none_handed : {h : Header} → HoldsCache h w (length b) → plan.none ≡ true → h.figures.chance ≡ 0
+    none_handed : {h : Header} → HoldsCache h w (length b) → plan.none ≡ true → h.figures.chance ≡ 0
     none_handed holds none =
         omega (
           arith,
@@ -145,6 +145,13 @@ module _ (w b : List ℕ) (ok : well_formed w (length b) ≡ true) (clock : ℕ)
               none_stay.0,
               ap (tally u.label) (plans.keeps_all none),
             ))
+
+    pub planned : {h : Header} → HoldsCache h w (length b) → PlannedAll h clock plan w (length b)
+    planned holds = record {
+      planned = record { holds = holds; none_expired = plans.none_expired };
+      keeps_all = plans.keeps_all;
+      none_handed = none_handed holds;
+    }
 
     module _ (x : Body) (sized : size x ≡ len) where
       -- what the plan leaves of a template's bodies

@@ -28,7 +28,8 @@ use Rattle.pending_calls.specs.Promises.{Does}
 use Rattle.pending_calls.proofs.RemovedLemmas.{TiedRows}
 use Rattle.offer_plan.specs.declared.plan.OfferPlan.{OfferPlan}
 use Rattle.offer_plan.specs.Plan.{Plans}
-use Rattle.pending_offer.specs.Promises.{body_of}
+use Rattle.pending_offer.specs.Promises.{body_of, FitsEntry}
+use Rattle.pending_offer.proofs.Offered.{fits_small}
 use Rattle.offer_steps.specs.Settle.{settled_figures}
 use Rattle.offer_steps.proofs.HeldBodies.{held_most}
 use Rattle.planned_removal.specs.Planned.{RemovesPlanned}
@@ -50,12 +51,12 @@ pub record Refusing (w b : List ℕ) (h : Header) (i : ℕ) (body : List ℕ) (c
 
 -- what is known once the bodies that the plan names are removed
 pub refusing : (w b : List ℕ) {h : Header} {i : ℕ} {body : List ℕ} {clock : ℕ} {plan : OfferPlan} {w₁ : List ℕ}
-    {left : Removed} → HoldsCache h w (length b) → length body ≤ (limits_of w).max_entry_size_bytes →
+    {left : Removed} → FitsEntry h body w (length b) →
     Plans w b i (length body) clock plan × (plan.full ≡ true) → RemovesPlanned clock plan 1024 w w₁ left →
     length w₁ ≡ length w → Refusing w b h i body clock plan w₁ left
-refusing w b holds small plans removed long = record {
-  holds = holds;
-  small = small;
+refusing w b fits plans removed long = record {
+  holds = fits.cache;
+  small = fits_small fits;
   plans = plans.0;
   full = plans.1;
   removed = removed;

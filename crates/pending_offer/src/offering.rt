@@ -1,15 +1,12 @@
 // The offer.
-ghost use Rattle.std.specs.Prelude.{◌≡◌, true, false, ◌≤◌, ◌<◌, length};
-ghost use Rattle.table.specs.Layout.{limits_of};
+ghost use Rattle.std.specs.Prelude.{◌≡◌, true, false, length};
 ghost use Rattle.table.specs.Table.{table_of};
-ghost use Rattle.table.specs.WellFormed.{well_formed};
 ghost use Rattle.cache_model.specs.Cache.{done, number};
 ghost use Rattle.cache_model.specs.Offer.{offered};
-ghost use Rattle.pending_flows.specs.Header.{HoldsCache};
 ghost use Rattle.pending_flows.specs.View.{areas_of, cache_of};
 ghost use Rattle.pending_calls.specs.Promises.{Does};
 ghost use Rattle.offer_plan.specs.Plan.{Plans, live_bodies};
-ghost use Rattle.pending_offer.specs.Promises.{body_of, offer_number, Offers, DoesOffer};
+ghost use Rattle.pending_offer.specs.Promises.{body_of, offer_number, FitsEntry, Offers, DoesOffer};
 ghost use Rattle.pending_offer.specs.declared.offering.OfferRefusal.TheVariants as OfferRefusal;
 
 use offer_plan::{OfferPlan, plan_offer};
@@ -17,7 +14,7 @@ use offer_steps::{add_body, choose_label, count_drop, held_bodies, settle};
 use packed_removal::remove_for_body;
 use pending_flows::Header;
 use planned_removal::remove_planned;
-use table::{Damaged, limits_at, records_at, records_in};
+use table::{Damaged, records_at, records_in};
 use table_watch::Sought;
 
 // Why a body is not accepted. Number 21 is none of them: no offer can reach it.
@@ -55,14 +52,12 @@ fn accept(
     bytes: &mut [u8],
     header: Header,
     plan: OfferPlan,
-    id: u64,
+    id: u16,
     body: &[u8],
     clock: u64,
 )
-    requires header_value { HoldsCache header words.old (length bytes.old) }
-    requires body_len_bound { length body.now ≤ (limits_of words.old).max_entry_size_bytes }
-    requires plans { (Plans words.old bytes.old id (length body.now) clock plan) × ((plan.full ≡ false) ×
-        (id < 65536)) }
+    requires fits { FitsEntry header body.now words.old (length bytes.old) }
+    requires plans { (Plans words.old bytes.old id (length body.now) clock plan) × (plan.full ≡ false) }
     ensures { Does (offered id (body_of body.now clock)) (cache_of (table_of words.old)
         bytes.old) (areas_of words.old bytes.old) done
         (areas_of words.new bytes.new) }
@@ -71,7 +66,16 @@ fn accept(
     let left = remove_for_body(words, bytes, header, plan, clock, body.len());
     let records = records_in(words, records_at(header.limits), left.records);
     let label = choose_label(records, plan.label);
-    add_body(words, bytes, header.limits, left, label, id, body, clock);
+    add_body(
+        words,
+        bytes,
+        header.limits,
+        left,
+        label,
+        id as u64,
+        body,
+        clock,
+    );
     let drops = held - (left.entries as u64);
     let total = left.bytes + (body.len() as u64);
     settle(
@@ -91,12 +95,11 @@ fn turn_down(
     bytes: &[u8],
     header: Header,
     plan: OfferPlan,
-    id: u64,
+    id: u16,
     body: &[u8],
     clock: u64,
 )
-    requires header_value { HoldsCache header words.old (length bytes.now) }
-    requires body_len_bound { length body.now ≤ (limits_of words.old).max_entry_size_bytes }
+    requires fits { FitsEntry header body.now words.old (length bytes.now) }
     requires plans { (Plans words.old bytes.now id (length body.now) clock plan) × (plan.full ≡ true) }
     ensures { Does (offered id (body_of body.now clock)) (cache_of (table_of words.old)
         bytes.now) (areas_of words.old bytes.now) (number 20)
@@ -119,50 +122,29 @@ fn turn_down(
 }
 
 // Offers a body that is not too long to a well-formed cache, in which the id has so many live bodies.
+// Id, body and clock apart, as the call is given them: its steps need now one of them and now another.
 fn offer_body(
     words: &mut [u64],
     bytes: &mut [u8],
-    id: u64,
+    header: Header,
+    id: u16,
     body: &[u8],
     clock: u64,
     live: usize,
 ) -> Result<(), OfferRefusal>
-    requires bytes_value { (well_formed words.old (length bytes.old) ≡ true) × (id < 65536) }
-    requires body_len_bound { length body.now ≤ (limits_of words.old).max_entry_size_bytes }
+    requires fits { FitsEntry header body.now words.old (length bytes.old) }
     requires live_value { live ≡ live_bodies words.old id clock }
     ensures { DoesOffer id body.now clock (cache_of (table_of words.old) bytes.old)
         (areas_of words.old bytes.old) result (areas_of words.new bytes.new) }
 {
-    let header = Header::read(words);
     let len = body.len();
-    let plan = plan_offer(words, bytes, header, id, len, clock, live);
+    let plan = plan_offer(words, bytes, header, id as u64, len, clock, live);
     if plan.full {
         turn_down(words, bytes, header, plan, id, body, clock);
         return Err(OfferRefusal::TemplateFull);
     }
     accept(words, bytes, header, plan, id, body, clock);
     Ok(())
-}
-
-// Offers a body to a well-formed cache, in which the id has so many live bodies.
-fn offer(
-    words: &mut [u64],
-    bytes: &mut [u8],
-    id: u64,
-    body: &[u8],
-    clock: u64,
-    live: usize,
-) -> Result<(), OfferRefusal>
-    requires bytes_value { (well_formed words.old (length bytes.old) ≡ true) × (id < 65536) }
-    requires live_value { live ≡ live_bodies words.old id clock }
-    ensures { DoesOffer id body.now clock (cache_of (table_of words.old) bytes.old)
-        (areas_of words.old bytes.old) result (areas_of words.new bytes.new) }
-{
-    if limits_at(words).max_entry_size_bytes < body.len() {
-        count_drop(words);
-        return Err(OfferRefusal::TooLong);
-    }
-    offer_body(words, bytes, id, body, clock, live)
 }
 
 // Offers a body: it is cached, or turned down. Either way other bodies may go.
@@ -181,5 +163,10 @@ pub fn cache(
         clock,
     };
     let seen = table_check::examine(words, bytes.len(), sought)?;
-    offer(words, bytes, id as u64, body, clock, seen.live)
+    let header = Header::read(words);
+    if header.limits.max_entry_size_bytes < body.len() {
+        count_drop(words);
+        return Err(OfferRefusal::TooLong);
+    }
+    offer_body(words, bytes, header, id, body, clock, seen.live)
 }

@@ -1,6 +1,6 @@
 -- The figures of a cache, read off a well-formed table. Assumes nothing.
 use mathlib.Core.Path.{◌≡◌, refl, ap, sym, ◌∙◌}
-use mathlib.Core.Bool.{Bool, true}
+use mathlib.Core.Bool.{true}
 use mathlib.Core.List.{List, [], ◌∷◌}
 use Prim.Native.Nat.{ℕ, ◌+◌, ◌*◌, ◌-◌, ◌≤◌}
 use native.Mathlib.Omega.{arith}
@@ -18,6 +18,8 @@ use Rattle.table.proofs.Facts.{LegalWords, words_say, differ_front}
 use Rattle.cache_model.specs.Bodies.{byte_total}
 use Rattle.cache_model.specs.Cache.{tells}
 use Rattle.cache_model.specs.Queries.{figures}
+use Rattle.pending_flows.specs.declared.header.Header.{Header}
+use Rattle.pending_flows.specs.Header.{HoldsCache}
 use Rattle.pending_flows.specs.View.{templates_at, chance_at, cache_of, areas_of, view}
 use Rattle.pending_flows.proofs.Templates.{length_bodies, length_templates}
 use Rattle.pending_flows.proofs.Weights.{weights_agree, len, lens_weigh}
@@ -92,7 +94,7 @@ module _ (w b : List ℕ) (ok : well_formed w (length b) ≡ true) where
   }
 
 -- The figures' call on a well-formed cache.
-pub figures_told : (w b : List ℕ) (f : CacheFigures) {s : Bool} → s ≡ well_formed w (length b) → s ≡ true →
+pub figures_told : (w b : List ℕ) (f : CacheFigures) {h : Header} → HoldsCache h w (length b) →
     figures_record f ≡ figures (cache_of (table_of w) b) →
     tells (figures_record f) ≡ asked (λ c. tells (figures c)) (view (areas_of w b))
-figures_told w b f tested ok e = ap tells e ∙ answered (λ c. tells (figures c)) w b tested ok
+figures_told w b f holds e = ap tells e ∙ answered (λ c. tells (figures c)) w b holds.legal

@@ -1,11 +1,12 @@
 // The queries on a pending flow cache in lent areas (pending_flows.rs).
+// Both areas are given, also where the words alone are read: what is asked is that the two hold a cache.
 #![tactic(auto)]
 
-ghost use Rattle.std.specs.Prelude.{◌≡◌, true, length};
+ghost use Rattle.std.specs.Prelude.{◌≡◌, length};
 ghost use Rattle.table.specs.Table.{table_of};
-ghost use Rattle.table.specs.WellFormed.{well_formed};
 ghost use Rattle.cache_model.specs.Cache.{says, tells};
 ghost use Rattle.cache_model.specs.Queries.{would_accept, figures};
+ghost use Rattle.pending_flows.specs.Header.{HoldsCache};
 ghost use Rattle.pending_flows.specs.View.{areas_of, cache_of};
 ghost use Rattle.pending_queries.specs.Queries.{Asks, accepts_with, accept_answer, figures_record, figures_answer};
 
@@ -25,6 +26,7 @@ fn accepts(limits: PendingFlowsConfig, len: usize, live: usize) -> bool
 }
 
 // Whether an offer would be accepted: yes binds an offer of this id and length at this clock reading, no does not.
+#[tactic(auto, using(crate::proofs::Answers::damaged, crate::proofs::Answers::asks, pending_flows::proofs::Questions::seen_damaged, pending_flows::proofs::Questions::seen_legal, pending_flows::proofs::Questions::header_within))]
 pub fn would_accept(
     words: &[u64],
     bytes: &[u8],
@@ -56,12 +58,11 @@ pub struct CacheFigures {
 }
 
 // The figures of a well-formed cache.
-#[tactic(auto, using(crate::proofs::Figures::figures_read, pending_flows::proofs::Figures::handed_few, pending_flows::proofs::Questions::header_within))]
-fn figures_of(words: &[u64], bytes: &[u8]) -> CacheFigures
-    requires { well_formed words.now (length bytes.now) ≡ true }
+#[tactic(auto, using(crate::proofs::Figures::figures_read, pending_flows::proofs::Figures::handed_few))]
+fn figures_of(words: &[u64], bytes: &[u8], header: Header) -> CacheFigures
+    requires { HoldsCache header words.now (length bytes.now) }
     ensures { figures_record result ≡ figures (cache_of (table_of words.now) bytes.now) }
 {
-    let header = Header::read(words);
     let figures = header.figures;
     let handed = handed_count(words, bytes, header.limits);
     CacheFigures {
@@ -75,12 +76,11 @@ fn figures_of(words: &[u64], bytes: &[u8]) -> CacheFigures
 }
 
 // Templates and bodies held, the byte total, both counters, and the bodies handed out.
+#[tactic(auto, using(crate::proofs::Answers::damaged, crate::proofs::Answers::asks))]
 pub fn take_figures(words: &[u64], bytes: &[u8]) -> Result<CacheFigures, Damaged>
     ensures { Asks (λ c. tells (figures c)) (areas_of words.now bytes.now)
         (figures_answer result) (areas_of words.now bytes.now) }
 {
-    if !table_check::well_formed(words, bytes.len()) {
-        return Err(Damaged);
-    }
-    Ok(figures_of(words, bytes))
+    let header = Header::of_cache(words, bytes)?;
+    Ok(figures_of(words, bytes, header))
 }

@@ -1,6 +1,5 @@
 -- What a resize leaves of a well-formed cache, step by step, before the header is written. Assumes nothing.
 use mathlib.Core.Path.{◌≡◌, refl, sym, ap, ◌∙◌}
-use mathlib.Core.Bool.{true}
 use mathlib.Core.List.{List, [], append-nil}
 use Prim.Native.Nat.{ℕ, ◌+◌, ◌*◌, ◌≤◌, max}
 use native.Mathlib.Omega.{arith}
@@ -12,7 +11,7 @@ use Rattle.config.specs.Limits.{record_words, entry_words, max_bodies, words_nee
 use Rattle.config.proofs.Limits as Config
 use Rattle.table.specs.Layout.{limits_of, held_count, chance_count, entries_at, records_at}
 use Rattle.table.specs.Table.{Table, table_of, entries_from, records_from, index_from, records, index, sum_lens}
-use Rattle.table.specs.WellFormed.{places_legal}
+use Rattle.table_entries.specs.Pack.{HoldsEntries}
 use Rattle.table.proofs.Words.{length_records, length_entries}
 use Rattle.table.proofs.Facts.{places_hold, LegalTable, table_holds, LegalWords, words_say}
 use Rattle.table_entries.specs.Sums.{lens_sum}
@@ -30,6 +29,7 @@ use Rattle.pending_flows.specs.declared.header.Header.{Header}
 use Rattle.pending_flows.specs.Header.{HoldsCache}
 use Rattle.pending_flows.proofs.Questions.{first_records}
 use Rattle.pending_calls.specs.declared.removal.Removed.{Removed}
+use Rattle.pending_calls.specs.Removal.{RowsWithin}
 use Rattle.table_view.proofs.Tied.{Tied, words_tied}
 use Rattle.table_view.proofs.Stored.{limits_legal_lem, legal_limited, tied_legal}
 use Rattle.resize_steps.specs.Cut.{Cuts}
@@ -84,13 +84,14 @@ module _ (l : PendingFlowsConfig) (w b : List ℕ) {h : Header} {p : ℕ} (holds
         bytes_few = old.limits_legal_lem.total_small;
       })
 
-  pub cut_fits : ((entries_at + entry_words * f.entries ≤ p)
-      × (p + record_words * (f.templates + f.chance) ≤ length w)) × (f.templates + f.chance ≤ 1024)
+  pub cut_fits : RowsWithin p (f.templates + f.chance) f.entries (length w)
   cut_fits =
-      rw (start, holds.figures) (
-        (omega (arith, old.entries_fit), omega (arith, old.templates_fit, old.limits_legal_lem.words_enough)),
-        omega (arith, old.templates_fit, old.limits_legal_lem.templates_few),
-      )
+      rw (start, holds.figures)
+      (record {
+        entries_below = omega (arith, old.entries_fit);
+        records_within = omega (arith, old.templates_fit, old.limits_legal_lem.words_enough);
+        records_few = omega (arith, old.templates_fit, old.limits_legal_lem.templates_few);
+      })
 
   records_end : p + record_words * (f.templates + f.chance) ≤ words_needed (limits_of w)
   records_end = rw (start, holds.figures) (omega (arith, old.templates_fit))
@@ -113,12 +114,15 @@ module _ (l : PendingFlowsConfig) (w b : List ℕ) {h : Header} {p : ℕ} (holds
         cut_templates l p f.templates f.chance f.entries most w b rows_before lent new.some_entries c
         ∙ ap (λ (ts : List Template). (cut l ts).held) held_are
 
-    pub total_fits : ((entries_at + entry_words * few.entries ≤ p) × (p + record_words * few.records ≤ length w₁))
-        × ((few.records ≤ 1024) × (few.bytes ≡ lens_sum (entries_from w₁ entries_at few.entries)))
-    total_fits = (
-      (omega (arith, cut_fits.0, c.few_entries), omega (arith, cut_fits.0, c.few_records, c.long)),
-      (rows_cut.records_few, lens_left rows_before _ _ c),
-    )
+    pub total_fits : RowsWithin p few.records few.entries (length w₁)
+    total_fits = record {
+      entries_below = omega (arith, cut_fits, c.few_entries);
+      records_within = omega (arith, cut_fits, c.few_records, c.long);
+      records_few = rows_cut.records_few;
+    }
+
+    pub bytes_cut : few.bytes ≡ lens_sum (entries_from w₁ entries_at few.entries)
+    bytes_cut = lens_left rows_before _ _ c
 
     module _ {w₂ : List ℕ} {left : Removed}
         (t : FitsTotal l.max_total_bytes p few.records few.entries w₁ w₂ left) where
@@ -137,13 +141,12 @@ module _ (l : PendingFlowsConfig) (w b : List ℕ) {h : Header} {p : ℕ} (holds
       within : Within l limits_alone [] after_fit
       within = rw templates_fit (shrunk_within l cache.held (limits_legal_lem new) (held_within cache limited))
 
-      pub places_fit : (entries_at + entry_words * left.entries ≤ length w₂)
-          × (places_legal 0 (length b) (entries_from w₂ entries_at left.entries) ≡ true)
+      pub places_fit : HoldsEntries left.entries w₂ (length b)
       places_fit =
-          let es = entries_from w₂ entries_at left.entries in (
-            omega (arith, total_fits.0, t.few_entries, t.long),
-            places_hold 0 (length b) es (placed_wider 0 most (length b) es lent rows_fit.placed),
-          )
+          let es = entries_from w₂ entries_at left.entries in record {
+            in_words = omega (arith, total_fits, t.few_entries, t.long);
+            in_bytes = places_hold 0 (length b) es (placed_wider 0 most (length b) es lent rows_fit.placed);
+          }
 
       module _ {w₃ b₃ : List ℕ} (s : FitsPlaces l.max_total_bytes left.entries w₂ b w₃ b₃)
           (words_long : length w₃ ≡ length w₂) (bytes_long : length b₃ ≡ length b) where
@@ -157,7 +160,7 @@ module _ (l : PendingFlowsConfig) (w b : List ℕ) {h : Header} {p : ℕ} (holds
         m = left.entries
 
         below : entries_at + entry_words * m ≤ p
-        below = omega (arith, total_fits.0, t.few_entries)
+        below = omega (arith, total_fits, t.few_entries)
 
         fits : lens_sum (entries_from w₂ entries_at m) ≤ room
         fits = omega (arith, rows_bytes rows_fit b lent, within.room)
@@ -207,7 +210,7 @@ module _ (l : PendingFlowsConfig) (w b : List ℕ) {h : Header} {p : ℕ} (holds
         module _ {to : ℕ} (at : to ≡ records_at l) where
           pub move_fits : (p + record_words * k ≤ length w₃) × (to + record_words * k ≤ length w₃)
           move_fits = (
-            omega (arith, total_fits.0, t.few_records, words_long, t.long),
+            omega (arith, total_fits, t.few_records, words_long, t.long),
             omega (arith, at, few_records, still_long, new.words_enough),
           )
 

@@ -1,6 +1,5 @@
 -- A resized cache: what is left, under the new header. Assumes nothing.
 use mathlib.Core.Path.{◌≡◌, sym, ap, ◌∙◌}
-use mathlib.Core.Bool.{true}
 use mathlib.Core.List.{List, [], append-nil}
 use mathlib.Core.Option.{some}
 use Prim.Native.Nat.{ℕ, ◌+◌, ◌-◌, ◌≤◌, max}
@@ -17,7 +16,6 @@ use Rattle.table.specs.declared.TemplateRecord.{TemplateRecord}
 use Rattle.table.specs.Layout.{limits_of, entry_count, entries_at, records_at}
 use Rattle.table.specs.Table.{table_of, entries_from, records_from, index_from}
 use Rattle.table.specs.Reads.{count_sum}
-use Rattle.table.specs.WellFormed.{well_formed}
 use Rattle.table.proofs.Words.{length_records, length_entries, length_index}
 use Rattle.table.proofs.Facts.{LegalTable, table_says, LegalWords, words_say}
 use Rattle.table_entries.proofs.Frames.{entries_above}
@@ -30,7 +28,8 @@ use Rattle.cache_model.proofs.Calls.{Limited, resized_to_within}
 use Rattle.pending_flows.specs.View.{areas_of, cache_of, view}
 use Rattle.pending_flows.specs.declared.header.HeaderFigures.{HeaderFigures}
 use Rattle.pending_flows.specs.declared.header.Header.{Header}
-use Rattle.pending_flows.specs.Header.{header_at, header_of}
+use Rattle.pending_flows.specs.Header.{HoldsCache, header_of}
+use Rattle.pending_flows.proofs.Questions.{header_is}
 use Rattle.pending_flows.proofs.Templates.{length_all_bodies}
 use Rattle.pending_flows.proofs.Weights.{counts_sum}
 use Rattle.pending_flows.proofs.Figures.{held_counted}
@@ -43,13 +42,13 @@ use Rattle.pending_resize.specs.Promises.{ResizesTo}
 use Rattle.resize_steps.proofs.Rows.{Rows}
 use Rattle.resize_steps.proofs.Fits.{rows_total}
 
-module _ (l : PendingFlowsConfig) (w b : List ℕ)
-    (ok : (well_formed w (length b) ≡ true) × (config_number l (length b) (length w) ≡ 0)) where
+module _ (l : PendingFlowsConfig) (w b : List ℕ) {h : Header} (cached : HoldsCache h w (length b))
+    (accepted : config_number l (length b) (length w) ≡ 0) where
   old : LegalWords w (length b)
-  old = words_say w (length b) ok.0
+  old = words_say w (length b) cached.legal
 
   new : Config.LegalLimits l (length b) (length w)
-  new = Config.limits_say l (length b) (length w) ok.1
+  new = Config.limits_say l (length b) (length w) accepted
 
   abbrev cache : Cache
   cache = cache_of (table_of w) b
@@ -97,20 +96,17 @@ module _ (l : PendingFlowsConfig) (w b : List ℕ)
     long : length w₁ ≡ length w
     long = s.frame.words_long
 
-    pub left_header : header_words ≤ length w₁
+    left_header : header_words ≤ length w₁
     left_header = omega (arith, old.header_long, long)
 
-    module _ (h : Header) (handed : ℕ) (read : h ≡ header_at w) (counted : handed ≡ count_sum (table_of w).handed) where
+    module _ (handed : ℕ) (counted : handed ≡ count_sum (table_of w).handed) where
       abbrev f : HeaderFigures
       f = h.figures
 
       removed_count : length (shrunk l cache.held).removed + m + handed ≡ f.entries
       removed_count =
-          let all : entry_count w ≡ f.entries = ap (λ (g : Header). g.figures.entries) (sym read) in
-          omega (arith, resize_drops l cache.held, left_count, held_counted w b ok.0, counted)
-
-      pub handed_few : handed ≤ f.entries
-      handed_few = omega (arith, removed_count)
+          let all : entry_count w ≡ f.entries = ap (λ (g : HeaderFigures). g.entries) (sym cached.figures) in
+          omega (arith, resize_drops l cache.held, left_count, held_counted w b cached.legal, counted)
 
       pub left_few : m ≤ f.entries - handed
       left_few = omega (arith, removed_count)
@@ -164,7 +160,7 @@ module _ (l : PendingFlowsConfig) (w b : List ℕ)
             let whole : take k rs ≡ rs = take_all k rs (omega (arith, length_records w₁ (records_at l) k)) in
             let none : drop k rs ≡ [] =
             drop_of_length-le rs {i = k} (omega (arith, length_records w₁ (records_at l) k)) in
-            rw (whole, none, s.templates, more, dropped_count, read)
+            rw (whole, none, s.templates, more, dropped_count, header_is w (length b) cached)
 
         headed_long : length w₂ ≡ length w₁
         headed_long = rw is_headed (headed_length l (after dropped) w₁ (omega (arith, left_header)))

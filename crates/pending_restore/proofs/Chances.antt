@@ -63,13 +63,14 @@ module _ (w b : List ℕ) (id n : ℕ) {h : Header} (holds : HoldsCache h w (len
   by_rows (t ∷ u ∷ us) e = absurd (omega (arith, rw e at (handed_single w b legal)))
 
   -- the record that is found behind the held ones
-  pub chance_found : {p : ℕ} → p ≡ records_at h.limits → {rs : List TemplateRecord} →
-      rs ≡ records_from w (p + record_words * h.figures.templates) h.figures.chance →
+  pub chance_found : {rs : List TemplateRecord} →
+      rs ≡ records_from w (records_at h.limits + record_words * h.figures.templates) h.figures.chance →
       {x : Option TemplateRecord} → x ≡ find (may_give id n) rs → FindsChance id n w b x
-  chance_found from {rs} read sought =
+  chance_found {rs} read sought =
       rw sought
       (by_rows rs
       (sym (read
-      ∙ as_read w (length b) holds from
-      (λ h p. records_from w (p + record_words * h.figures.templates) h.figures.chance ≡ (table_of w).handed)
+      ∙ as_read w (length b) holds
+      (λ h. records_from w (records_at h.limits + record_words * h.figures.templates) h.figures.chance
+      ≡ (table_of w).handed)
       (sym (records_behind w (records_at (limits_of w)) (held_count w) (chance_count w))))))

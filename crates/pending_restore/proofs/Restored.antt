@@ -24,7 +24,7 @@ use Rattle.cache_model.specs.Cache.{Cache, Outcome, done, no_chance}
 use Rattle.cache_model.specs.Calls.{may_put_back, restored, put_back}
 use Rattle.cache_model.proofs.Calls.{put_back_keeps}
 use Rattle.pending_flows.specs.declared.header.HeaderFigures.{HeaderFigures}
-use Rattle.pending_flows.specs.Header.{figures_at}
+use Rattle.pending_flows.specs.Header.{header_at}
 use Rattle.pending_flows.specs.View.{bodies_at, templates_at, chance_at, areas_of, cache_of}
 use Rattle.pending_flows.proofs.Questions.{first_records}
 use Rattle.pending_flows.proofs.Templates.{length_bodies}
@@ -85,7 +85,7 @@ module _ (w b : List ℕ) (n : ℕ) (t : TemplateRecord) where
     unfolding put_back restored
     put_back_is = rw (ne_eqb n 0 (λ e. omega arith), may_put_back_lem, chance.handed)
 
-    module _ {w' : List ℕ} {r : Removed} (taken : TakesBack t.label (t.count - n) p (figures_at w) w w' r) where
+    module _ {w' : List ℕ} {r : Removed} (taken : TakesBack (header_at w) t.label (t.count - n) w w' r) where
       abbrev es : List Entry
       es = entries_from w' entries_at r.entries
 

@@ -1,12 +1,12 @@
 -- The steps of a put-back, with the header as it was read: what each step asks, and what all do.
 -- Assumes nothing.
 use Rattle.std.proofs.Common.{Option, Some, None, Ok, Err}
-use mathlib.Core.Path.{◌≡◌, refl, sym, ap, subst, ◌∙◌}
+use mathlib.Core.Path.{◌≡◌, refl, sym, subst, ◌∙◌}
 use mathlib.Core.Bool.{Bool, true, false}
 use mathlib.Core.List.{List, [], ◌∷◌, ◌++◌}
 use Prim.Native.Nat.{ℕ, ◌+◌, ◌-◌, ◌≤◌, ◌<◌}
 use native.Mathlib.Omega.{arith}
-use lib.ListN.{length, set, length-set}
+use lib.ListN.{length, set}
 use borrow.Author.Tests.{eq-eqb, ne_eqb}
 use Rattle.areas.specs.Overwrite.{overwritten}
 use Rattle.config.proofs.Limits.{cap_small}
@@ -19,31 +19,28 @@ use Rattle.table.proofs.Facts.{LegalRecord, words_say}
 use Rattle.table_entries.specs.declared.StayTest.{StayTest}
 use Rattle.cache_model.specs.Cache.{done}
 use Rattle.cache_model.specs.Calls.{put_back}
-use Rattle.pending_flows.specs.declared.header.HeaderFigures.{HeaderFigures}
 use Rattle.pending_flows.specs.declared.header.Header.{Header}
 use Rattle.pending_flows.specs.Header.{HoldsCache, header_of}
 use Rattle.pending_flows.specs.View.{areas_of, cache_of}
 use Rattle.pending_calls.specs.declared.removal.Removed.{Removed}
 use Rattle.pending_calls.specs.Removal.{everything, Removes}
 use Rattle.pending_calls.specs.Promises.{Does}
-use Rattle.pending_calls.proofs.Performed.{view_some, damaged_performs, performed, untouched_all}
+use Rattle.pending_flows.proofs.Questions.{view_some}
+use Rattle.pending_calls.proofs.Performed.{damaged_performs, performed, untouched_all}
 use Rattle.pending_restore.specs.declared.PutBackRefusal.TheVariants as Refusal
 use Rattle.pending_drain.specs.Handing.{zeros}
 use Rattle.pending_restore.specs.Restoring.{HasChance, FindsChance, TakesBack}
 use Rattle.pending_restore.specs.Promises.{PutsBack}
 use Rattle.pending_drain.proofs.AsRead.{as_read}
-use Rattle.pending_drain.proofs.Handing.{length_zeros}
 use Rattle.pending_restore.proofs.Restored.{put_back_does}
 
 -- ---- what is taken out
 
-pub one_skip_long : (label less : ℕ) {skip : List ℕ} → skip ≡ set zeros label less → length skip ≡ 1024
-one_skip_long label less e = ap length e ∙ length-set zeros label less ∙ length_zeros
-
-pub taken_back : (label less p : ℕ) (f : HeaderFigures) (w w' : List ℕ) (r : Removed) {q : StayTest} {skip : List ℕ} →
-    q ≡ everything → skip ≡ set zeros label less →
-    Removes q p (f.templates + f.chance) f.entries 1024 skip w w' r → TakesBack label less p f w w' r
-taken_back label less p f w w' r all e d = rw (← all, ← e) d
+pub taken_back : (h : Header) (label less : ℕ) (w w' : List ℕ) (r : Removed) {p : ℕ} {q : StayTest} {skip : List ℕ} →
+    p ≡ records_at h.limits → q ≡ everything → skip ≡ set zeros label less →
+    Removes q p (h.figures.templates + h.figures.chance) h.figures.entries 1024 skip w w' r →
+    TakesBack h label less w w' r
+taken_back h label less w w' r from all e d = rw (← from, ← all, ← e) d
 
 -- ---- a well-formed cache
 
@@ -62,8 +59,8 @@ module _ (w b : List ℕ) (n : ℕ) (t : TemplateRecord) {h : Header} (holds : H
         cap_small (limits_of w) (length b) (length w) legal.limits_legal_lem,
       )
 
-  module _ {p : ℕ} (from : p ≡ records_at h.limits) {w' : List ℕ} {r : Removed}
-      (taken : TakesBack t.label (t.count - n) p h.figures w w' r) (long : length w' ≡ length w) where
+  module _ {w' : List ℕ} {r : Removed} (taken : TakesBack h t.label (t.count - n) w w' r)
+      (long : length w' ≡ length w) where
     -- the header that is written
     abbrev Written : Header → List ℕ → Type 0
     Written h w'' =
@@ -80,8 +77,8 @@ module _ (w b : List ℕ) (n : ℕ) (t : TemplateRecord) {h : Header} (holds : H
         Does (put_back t.key n) (cache_of (table_of w) b) (areas_of w b) done (areas_of w'' b)
     unfolding overwritten
     put_back_written {w''} written =
-        as_read w (length b) holds from
-        (λ h p. TakesBack t.label (t.count - n) p h.figures w w' r → Written h w'' →
+        as_read w (length b) holds
+        (λ h. TakesBack h t.label (t.count - n) w w' r → Written h w'' →
         Does (put_back t.key n) (cache_of (table_of w) b) (areas_of w b) done (areas_of w'' b))
         (λ k z. rw z (put_back_does w b n t holds.legal some chance k long)) taken written
 
@@ -92,21 +89,23 @@ pub has_chance : {id n : ℕ} {w b : List ℕ} {x : Option TemplateRecord} {t : 
     x ≡ Some t → HasChance n t w
 has_chance {t = t} sought e = (sought.found t e).1
 
-module _ (w b : List ℕ) (id n : ℕ) {v : Bool} (tested : v ≡ well_formed w (length b)) where
-  pub put_back_damaged : v ≡ false → PutsBack id n (areas_of w b) (Err Refusal.Damaged) (areas_of w b)
-  put_back_damaged h = record {
-    performs = damaged_performs w b tested (put_back id n) h;
+module _ (w b : List ℕ) (id n : ℕ) where
+  pub put_back_damaged : well_formed w (length b) ≡ false →
+      PutsBack id n (areas_of w b) (Err Refusal.Damaged) (areas_of w b)
+  put_back_damaged damaged = record {
+    performs = damaged_performs w b (put_back id n) damaged;
     refused = λ _. refl;
     nothing = λ _. refl;
     frame = untouched_all _ _ _;
   }
 
-  pub put_back_of_none : v ≡ true → n ≡ 0 → PutsBack id n (areas_of w b) (Ok tt) (areas_of w b)
+  pub put_back_of_none : {h : Header} → HoldsCache h w (length b) → n ≡ 0 →
+      PutsBack id n (areas_of w b) (Ok tt) (areas_of w b)
   unfolding put_back
-  put_back_of_none h none = record {
-    performs = performed w b tested (put_back id n) h (record {
+  put_back_of_none holds none = record {
+    performs = performed w b (put_back id n) holds.legal (record {
       answer = rw (eq-eqb n 0 none);
-      holds = view_some w b tested h ∙ rw (eq-eqb n 0 none);
+      holds = view_some w b holds.legal ∙ rw (eq-eqb n 0 none);
       frame = untouched_all _ _ _;
     });
     refused = λ _. refl;
@@ -114,14 +113,15 @@ module _ (w b : List ℕ) (id n : ℕ) {v : Bool} (tested : v ≡ well_formed w 
     frame = untouched_all _ _ _;
   }
 
-  module _ {x : Option TemplateRecord} (h : v ≡ true) (some : n ≡ 0 → ⊥) (sought : FindsChance id n w b x) where
+  module _ {x : Option TemplateRecord} {h : Header} (cached : HoldsCache h w (length b)) (some : n ≡ 0 → ⊥)
+      (sought : FindsChance id n w b x) where
     pub put_back_refused : x ≡ None →
         PutsBack id n (areas_of w b) (Err Refusal.NoChance) (areas_of w b)
     unfolding put_back
     put_back_refused e = record {
-      performs = performed w b tested (put_back id n) h (record {
+      performs = performed w b (put_back id n) cached.legal (record {
         answer = rw (ne_eqb n 0 some, sought.absent e);
-        holds = view_some w b tested h ∙ rw (ne_eqb n 0 some, sought.absent e);
+        holds = view_some w b cached.legal ∙ rw (ne_eqb n 0 some, sought.absent e);
         frame = untouched_all _ _ _;
       });
       refused = λ _. refl;
@@ -137,7 +137,7 @@ module _ (w b : List ℕ) (id n : ℕ) {v : Bool} (tested : v ≡ well_formed w 
         let does : Does (put_back id n) (cache_of (table_of w) b) (areas_of w b) done (areas_of w' b') =
         subst (λ (i : ℕ). Does (put_back i n) (cache_of (table_of w) b) (areas_of w b) done (areas_of w' b')) same d in
         record {
-          performs = performed w b tested (put_back id n) h does;
+          performs = performed w b (put_back id n) cached.legal does;
           refused = λ q. let z : ◌≡◌ {A = ℕ} 0 1 = cc in absurd (omega arith);
           nothing = λ q. absurd (some q);
           frame = d.frame;

@@ -3,9 +3,10 @@
 use Rattle.std.specs.Prelude.{Option, Some, None}
 use Rattle.std.specs.Prelude.{◌≡◌, Bool, false, eqb, leb, ◌&&◌, List, [], ◌∷◌, ℕ, ◌+◌, ◌≤◌, set}
 use Rattle.table.specs.declared.TemplateRecord.{TemplateRecord}
+use Rattle.table.specs.Layout.{records_at}
 use Rattle.table.specs.Table.{table_of}
 use Rattle.cache_model.specs.Calls.{may_put_back}
-use Rattle.pending_flows.specs.declared.header.HeaderFigures.{HeaderFigures}
+use Rattle.pending_flows.specs.declared.header.Header.{Header}
 use Rattle.pending_flows.specs.View.{cache_of}
 use Rattle.pending_calls.specs.declared.removal.Removed.{Removed}
 use Rattle.pending_calls.specs.Removal.{everything, Removes}
@@ -25,7 +26,8 @@ pub record FindsChance (id n : ℕ) (w b : List ℕ) (r : Option TemplateRecord)
   pub absent : r ≡ None → may_put_back id n (cache_of (table_of w) b) ≡ false
   pub found : (t : TemplateRecord) → r ≡ Some t → (id ≡ t.key) × HasChance n t w
 
--- the oldest bodies of a label go, so many of them, and no others; from word p on stand the records
-abbrev pub TakesBack : ℕ → ℕ → ℕ → HeaderFigures → List ℕ → List ℕ → Removed → Type 0
-TakesBack label less p f w w' r =
-    Removes everything p (f.templates + f.chance) f.entries 1024 (set zeros label less) w w' r
+-- of a cache with this header the oldest bodies of a label go, so many of them, and no others
+abbrev pub TakesBack : Header → ℕ → ℕ → List ℕ → List ℕ → Removed → Type 0
+TakesBack h label less w w' r =
+    let f = h.figures in
+    Removes everything (records_at h.limits) (f.templates + f.chance) f.entries 1024 (set zeros label less) w w' r

@@ -1,10 +1,9 @@
 // Putting back what a drain handed out.
+// Both areas are given, also where the words alone are read: what is asked is that the two hold a cache.
 #![tactic(auto)]
 
-ghost use Rattle.std.specs.Prelude.{◌≡◌, ◌+◌, ◌*◌, ◌≤◌, ◌<◌, length};
+ghost use Rattle.std.specs.Prelude.{◌≡◌, ◌<◌, length};
 ghost use Rattle.std.specs.List.{find};
-ghost use Rattle.config.specs.Limits.{record_words, entry_words};
-ghost use Rattle.table.specs.Layout.{entries_at};
 ghost use Rattle.table.specs.Parts.{templates_of};
 ghost use Rattle.table.specs.Table.{table_of};
 ghost use Rattle.cache_model.specs.Cache.{done};
@@ -14,11 +13,12 @@ ghost use Rattle.pending_flows.specs.View.{areas_of, cache_of};
 ghost use Rattle.pending_calls.specs.Promises.{Does};
 ghost use Rattle.pending_restore.specs.Restoring.{may_give, HasChance, FindsChance, TakesBack};
 ghost use Rattle.pending_restore.specs.Promises.{put_back_number, PutsBack};
+ghost use Rattle.pending_restore.specs.declared.PutBackRefusal.TheVariants as PutBackRefusal;
 
 use config::RECORD_WORDS;
 use pending_calls::{Removed, remove, stay_all};
 use pending_flows::{Header, HeaderFigures};
-use table::{LABELS, TemplateRecord, records_at, records_in, template_of};
+use table::{Damaged, LABELS, TemplateRecord, records_at, template_of};
 use table_records::set_sum;
 
 // Why nothing is put back.
@@ -26,6 +26,14 @@ use table_records::set_sum;
 pub enum PutBackRefusal {
     NoChance,
     Damaged,
+}
+
+impl From<Damaged> for PutBackRefusal {
+    ghost from_gives = { λ _ refusal. refusal ≡ PutBackRefusal.Damaged };
+
+    fn from(_damaged: Damaged) -> PutBackRefusal {
+        PutBackRefusal::Damaged
+    }
 }
 
 // Document 01's number of a refusal.
@@ -61,32 +69,22 @@ fn find_chance(
     requires { HoldsCache header words.now (length bytes.now) × (0 < n) }
     ensures { FindsChance id n words.now bytes.now result }
 {
-    let Header { limits, figures } = header;
-    let behind = records_at(limits) + RECORD_WORDS * (figures.templates as usize);
-    let handed = records_in(words, behind, figures.chance as usize);
+    let (_, handed) = header.templates(words);
     sought(handed, id, n)
 }
 
 // Removes so many of a label's bodies, the oldest, and no others.
-// The words and a place, no parts: `as_chunks_mut` says nothing of what the words end as.
-fn take_back(
-    words: &mut [u64],
-    from: usize,
-    figures: HeaderFigures,
-    label: u64,
-    less: u32,
-) -> Removed
-    requires entries_bound { (entries_at + entry_words * figures.entries ≤ from) × (from + record_words * (figures.templates +
-        figures.chance) ≤ length words.old) }
-    requires chance_bound { figures.templates + figures.chance ≤ 1024 }
-    ensures { TakesBack label less from figures words.old words.new result }
+fn take_back(words: &mut [u64], bytes: &[u8], header: Header, label: u64, less: u32) -> Removed
+    requires { HoldsCache header words.old (length bytes.now) }
+    ensures { TakesBack header label less words.old words.new result }
 {
-    let records = (figures.templates as usize) + (figures.chance as usize);
+    let Header { limits, figures } = header;
+    let records = (figures.templates + figures.chance) as usize;
     let mut skip = [0; LABELS];
     set_sum(&mut skip, label, less);
     remove(
         words,
-        from,
+        records_at(limits),
         records,
         figures.entries as usize,
         stay_all(),
@@ -103,9 +101,8 @@ fn put_back(words: &mut [u64], bytes: &[u8], header: Header, template: TemplateR
         (areas_of words.old bytes.now) done (areas_of words.new bytes.now) }
 {
     let Header { limits, figures } = header;
-    let from = records_at(limits);
     let less = template.count - n;
-    let removed = take_back(words, from, figures, template.label, less as u32);
+    let removed = take_back(words, bytes, header, template.label, less as u32);
     let after = HeaderFigures {
         total: removed.bytes,
         templates: removed.records as u64,
@@ -122,6 +119,7 @@ fn put_back(words: &mut [u64], bytes: &[u8], header: Header, template: TemplateR
 
 // Puts back the last n bodies of the last drain, if it drained this id, handed out as many, and neither an offer nor
 // another call has ended the chance; a put-back ends it.
+#[tactic(auto, using(crate::proofs::Restores::put_back_damaged))]
 pub fn restore_replay_suffix(
     words: &mut [u64],
     bytes: &[u8],
@@ -131,13 +129,11 @@ pub fn restore_replay_suffix(
     ensures { PutsBack id n (areas_of words.old bytes.now) result
         (areas_of words.new bytes.now) }
 {
-    if !table_check::well_formed(words, bytes.len()) {
-        return Err(PutBackRefusal::Damaged);
-    }
+    let header = Header::of_cache(words, bytes)?;
     if n == 0 {
         return Ok(());
     }
-    let header = Header::read(words);
+    // no `ok_or` and `?`: tried, and what is answered then did not close
     let Some(template) = find_chance(words, bytes, header, id as u64, n as u64) else {
         return Err(PutBackRefusal::NoChance);
     };

@@ -3,7 +3,7 @@
 use Rattle.std.proofs.Common.{Option, Some, None}
 use Rattle.std.proofs.lemmas.Option.{none-some, same_Some}
 use mathlib.Core.Path.{◌≡◌, refl, sym, ap, subst, ◌∙◌}
-use mathlib.Core.Bool.{Bool, true}
+use mathlib.Core.Bool.{Bool, true, cond}
 use mathlib.Core.List.{List, [], ◌∷◌}
 use Prim.Native.Nat.{ℕ, ◌+◌, ◌*◌}
 use native.Mathlib.Omega.{arith}
@@ -121,7 +121,6 @@ expired_alone w n {h} holds clock apart plan {w'} {r} t certainly sure is remove
     test_of ttl all label = record {
       ttl = ttl;
       clock = clock;
-      all = all;
-      label = label;
+      only = cond all None (Some label);
       max_size = 18446744073709551615;
     }

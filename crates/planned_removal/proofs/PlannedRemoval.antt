@@ -1,29 +1,27 @@
 -- The planned removal, with the header that was read. Assumes nothing.
-use mathlib.Core.Path.{◌≡◌, refl, sym, ap, ◌∙◌}
+use mathlib.Core.Path.{◌≡◌, refl, sym, ◌∙◌}
 use mathlib.Core.Bool.{true}
 use mathlib.Core.List.{List, [], ◌∷◌}
-use Prim.Native.Nat.{ℕ, zero, suc, ◌+◌, ◌≤◌, ◌<◌}
+use Prim.Native.Nat.{ℕ, zero, suc, ◌≤◌, ◌<◌}
 use native.Mathlib.Omega.{arith}
 use lib.ListN.{length, get_or, set, take, replicate, take-append-drop, get_or-replicate}
 use Rattle.config.proofs.Limits.{cap_small}
 use Rattle.config.proofs.Lists.{All, all_map, all_both}
 use Rattle.table.specs.declared.TemplateRecord.{TemplateRecord}
-use Rattle.table.specs.Layout.{limits_of, held_count, records_at}
+use Rattle.table.specs.Layout.{limits_of, held_count}
 use Rattle.table.specs.Table.{table_of, records}
 use Rattle.table.specs.Reads.{label_or_none}
 use Rattle.table.specs.WellFormed.{well_formed}
 use Rattle.table.proofs.Facts.{LegalRecord, words_say}
-use Rattle.table_entries.specs.declared.StayTest.{StayTest}
 use Rattle.table_entries.specs.Stays.{stays}
 use Rattle.table_entries.proofs.LabelSums.{zeros}
 use Rattle.table_entries.proofs.Swept.{swept_alike}
 use Rattle.table_view.proofs.AllStay.{unaged_stay}
 use Rattle.table_records.specs.Choose.{skip_all, set_each, skipping}
-use Rattle.pending_flows.specs.declared.header.HeaderFigures.{HeaderFigures}
 use Rattle.pending_flows.specs.declared.header.Header.{Header}
 use Rattle.pending_flows.specs.Header.{HoldsCache}
 use Rattle.pending_calls.specs.declared.removal.Removed.{Removed}
-use Rattle.pending_calls.specs.Removal.{everything, SkipsWhole, Removes, RemovesFrom}
+use Rattle.pending_calls.specs.Removal.{everything, SkipsWhole, RemovesFrom}
 use Rattle.pending_calls.proofs.NoneRemoved.{removes_alike, all_swept_stay}
 use Rattle.offer_plan.specs.declared.plan.OfferPlan.{OfferPlan}
 use Rattle.offer_plan.specs.Plan.{plan_test, skip_of, KeepsAll, NoneExpired}
@@ -39,12 +37,6 @@ module _ (w : List ℕ) (n : ℕ) {h : Header} (holds : HoldsCache h w n) (clock
       w w' r →
       RemovesPlanned clock plan apart w w' r
   none_planned keeps none done = removes_alike (all_swept_stay w n holds.legal ∙ sym (keeps none)) done
-
-  pub removed_planned : (p : ℕ) (t : StayTest) (skip : List ℕ) → p ≡ records_at h.limits →
-      t ≡ plan_test h.limits clock plan → skip ≡ skip_of w plan →
-      Removes t p (h.figures.templates + h.figures.chance) h.figures.entries apart skip w w' r →
-      RemovesPlanned clock plan apart w w' r
-  removed_planned p t skip from test skips done = rw (test, skips, holds.figures, from, holds.limits) at done
 
 -- ---- only whole templates go
 
@@ -102,12 +94,3 @@ module _ (w b : List ℕ) (ok : well_formed w (length b) ≡ true) (clock apart 
       all_both (λ e. stays everything e ≡ true) (λ e. stays q e ≡ true) (λ e. stays everything e ≡ stays q e)
       (λ e x y. x ∙ sym y) es (unaged_stay everything es refl (short w b ok)) (stay unaged) in
       removes_alike (swept_alike everything q (skip_of w plan) es alike) (rw skips at done)
-
--- where nothing goes, nothing is handed out
-pub none_chance : (plan : OfferPlan) (f : HeaderFigures) → (plan.none ≡ true → f.chance ≡ 0) → plan.none ≡ true →
-    f.chance ≡ 0
-none_chance plan f hands none = hands none
-
--- as many skips as labels
-pub planned_long : (w : List ℕ) (plan : OfferPlan) (skip : List ℕ) → skip ≡ skip_of w plan → length skip ≡ 1024
-planned_long w plan skip is = ap length is ∙ skips_long w plan

@@ -1,19 +1,19 @@
 // Removing what the plan of an offer removes (pending_flows.rs).
+// Both areas are given, also where the words alone are read: what is asked is that the two hold a cache.
 #![tactic(auto)]
 
-ghost use Rattle.std.specs.Prelude.{◌≡◌, Some, true, ℕ, ◌≤◌, length};
-ghost use Rattle.table.specs.Layout.{held_count};
+ghost use Rattle.std.specs.Prelude.{◌≡◌, Some, true, ℕ, length};
 ghost use Rattle.table.specs.Reads.{label_or_none};
 ghost use Rattle.pending_flows.specs.Header.{HoldsCache};
-ghost use Rattle.offer_plan.specs.Plan.{plan_test, KeepsAll, NoneExpired};
-ghost use Rattle.planned_removal.specs.Planned.{RemovesPlanned};
+ghost use Rattle.offer_plan.specs.Plan.{plan_test};
+ghost use Rattle.planned_removal.specs.Planned.{PlannedFor, PlannedAll, RemovesPlanned};
 ghost use Rattle.planned_removal.specs.Alone.{GoesAlone, OnlyExpired};
 
 use config::PendingFlowsConfig;
 use offer_plan::{OfferPlan, skip_planned};
 use pending_calls::{Removed, remove, remove_none, remove_whole, stay_all};
 use pending_flows::{Header, HeaderFigures};
-use table::{LABELS, first_label, label_number, records_at, records_in};
+use table::{LABELS, first_label, label_number, records_at};
 use table_entries::StayTest;
 use template_removal::{remove_expired_of, remove_template};
 
@@ -21,12 +21,15 @@ use template_removal::{remove_expired_of, remove_template};
 fn stay_test(limits: PendingFlowsConfig, clock: u64, plan: OfferPlan) -> StayTest
     ensures { result ≡ plan_test limits clock plan }
 {
-    let ttl = limits.ttl;
+    let only = if plan.all {
+        None
+    } else {
+        Some(label_number(plan.label))
+    };
     StayTest {
-        ttl,
+        ttl: limits.ttl,
         clock,
-        all: plan.all,
-        label: label_number(plan.label),
+        only,
         max_size: u64::MAX,
     }
 }
@@ -40,9 +43,7 @@ fn remove_skipped(
     clock: u64,
     apart: Option<u64>,
 ) -> Removed
-    requires header_value { HoldsCache header words.old (length bytes.now) }
-    requires plan_value { plan.evicted ≤ held_count words.old }
-    requires none_expired { NoneExpired words.old clock plan }
+    requires { PlannedFor header clock plan words.old (length bytes.now) }
     ensures { RemovesPlanned clock plan (label_or_none apart) words.old words.new result }
 {
     let mut skip = [0u32; LABELS];
@@ -86,8 +87,8 @@ pub fn alone_label(words: &[u64], bytes: &[u8], header: Header, plan: OfferPlan)
     if plan.first.is_some() {
         return None;
     }
-    let records = records_in(words, records_at(limits), figures.templates as usize);
-    first_label(records)
+    let (held, _) = header.templates(words);
+    first_label(held)
 }
 
 // Whether nothing but expired bodies of the id may go, and its record is the one that goes.
@@ -110,9 +111,7 @@ fn remove_some(
     clock: u64,
     apart: Option<u64>,
 ) -> Removed
-    requires header_value { HoldsCache header words.old (length bytes.now) }
-    requires plan_value { plan.evicted ≤ held_count words.old }
-    requires none_expired { NoneExpired words.old clock plan }
+    requires { PlannedFor header clock plan words.old (length bytes.now) }
     ensures { RemovesPlanned clock plan (label_or_none apart) words.old words.new result }
 {
     if let Some(label) = alone_label(words, bytes, header, plan) {
@@ -133,10 +132,7 @@ pub fn remove_planned(
     clock: u64,
     apart: Option<u64>,
 ) -> Removed
-    requires header_value { HoldsCache header words.old (length bytes.now) }
-    requires plan_value { plan.evicted ≤ held_count words.old }
-    requires keeps_all { KeepsAll words.old clock plan × (plan.none ≡ true → header.figures.chance ≡ 0) }
-    requires none_expired { NoneExpired words.old clock plan }
+    requires { PlannedAll header clock plan words.old (length bytes.now) }
     ensures { RemovesPlanned clock plan (label_or_none apart) words.old words.new result }
 {
     if plan.none {

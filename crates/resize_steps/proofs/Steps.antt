@@ -7,7 +7,7 @@ use native.Mathlib.Omega.{arith}
 use lib.Dec.{leb, ltb}
 use lib.ListN.{length, get_or, take, length-replicate}
 use borrow.Author.Tests.{le-leb, lt-leb}
-use Rattle.std.proofs.lemmas.List.{take-map, length-take-le}
+use Rattle.std.proofs.lemmas.List.{length-take-le}
 use Rattle.config.specs.declared.PendingFlowsConfig.{PendingFlowsConfig}
 use Rattle.table.specs.declared.Entry.{Entry}
 use Rattle.table.specs.declared.TemplateRecord.{TemplateRecord}
@@ -16,7 +16,7 @@ use Rattle.table.specs.Layout.{entries_at}
 use Rattle.table.specs.Table.{entries_from, records_from}
 use Rattle.table.specs.WellFormed.{places_legal}
 use Rattle.table.specs.Parts.{template_of, entries_of, templates_of}
-use Rattle.table.proofs.Parts.{as_many}
+use Rattle.table.proofs.Parts.{as_many, first_parts}
 use Rattle.table_entries.specs.declared.StayTest.{StayTest}
 use Rattle.table_entries.specs.Sums.{lens_sum, summed}
 use Rattle.table_entries.specs.Pack.{last_end, Packs}
@@ -29,29 +29,24 @@ use Rattle.resize_steps.specs.Removing.{zeros, RemovesSkipped}
 use Rattle.resize_steps.specs.Cut.{small_enough, cut_skips, Cuts}
 use Rattle.resize_steps.specs.Fit.{over_total, total_skips, FitsTotal, fitted_entries, fitted_bytes, FitsPlaces}
 
--- the first of some parts
-first_parts : (n : ℕ) (parts : List (List ℕ)) → templates_of (take n parts) ≡ take n (templates_of parts)
-first_parts n parts = sym (take-map template_of n parts)
-
 -- ---- cutting
 
 pub cut_skips_lem : (l : PendingFlowsConfig) (held handed entries : List (List ℕ)) (skip₀ : List ℕ)
-    {q : StayTest} {counts skip₁ skip₂ skip₃ : List ℕ} {beyond : ℕ} → q ≡ small_enough l →
-    counts ≡ summed q false zeros (entries_of entries) →
+    {counts skip₁ skip₂ skip₃ : List ℕ} {beyond : ℕ} →
+    counts ≡ summed (small_enough l) false zeros (entries_of entries) →
     skip₁ ≡ skipping_over l.max_entries_per_template counts skip₀ (templates_of held) →
     beyond ≡ length held - l.max_pending_flows → skip₂ ≡ skipping skip₁ (templates_of (take beyond held)) →
     skip₃ ≡ skipping skip₂ (templates_of handed) →
     skip₃ ≡ cut_skips l (templates_of held) (templates_of handed) (entries_of entries) skip₀
 unfolding cut_skips
-cut_skips_lem l held handed entries skip₀ small counted over beyond first last =
+cut_skips_lem l held handed entries skip₀ counted over beyond first last =
     rw (
       last,
       first,
       over,
       counted,
-      small,
       beyond,
-      first_parts (length held - l.max_pending_flows) held,
+      first_parts template_of (length held - l.max_pending_flows) held,
       as_many template_of held,
     )
 
@@ -92,13 +87,13 @@ module _ (room total : ℕ) (sizes : List ℕ) (records : List (List ℕ)) {evic
       let few = evictions_few room sizes total (templates_of records) in
       sym (length-take-le evicted records (omega (arith, chosen, few, as_many template_of records)))
 
-  pub total_skips_lem : (entries : List (List ℕ)) (skip : List ℕ) {q : StayTest} {skip' : List ℕ} → q ≡ everything →
-      sizes ≡ summed q true zeros (entries_of entries) → total ≡ lens_sum (entries_of entries) →
+  pub total_skips_lem : (entries : List (List ℕ)) (skip : List ℕ) {skip' : List ℕ} →
+      sizes ≡ summed everything true zeros (entries_of entries) → total ≡ lens_sum (entries_of entries) →
       skip' ≡ skipping skip (templates_of (take evicted records)) →
       skip' ≡ total_skips room (templates_of records) (entries_of entries) skip
   unfolding total_skips
-  total_skips_lem entries skip all sized summed-up first =
-      rw (first, first_parts evicted records, chosen, sized, all, summed-up)
+  total_skips_lem entries skip sized summed-up first =
+      rw (first, first_parts template_of evicted records, chosen, sized, summed-up)
 
 pub total_skips_long : (room : ℕ) (rs : List TemplateRecord) (es : List Entry) (skip : List ℕ) →
     skip ≡ total_skips room rs es zeros → length skip ≡ 1024

@@ -1,5 +1,5 @@
 -- Cutting to the new number of templates, entry size and cap.
-use Rattle.std.specs.Prelude.{None, false, List, ℕ, ◌+◌, ◌*◌, ◌-◌, length, take}
+use Rattle.std.specs.Prelude.{Some, None, false, List, ℕ, ◌+◌, ◌*◌, ◌-◌, length, take}
 use Rattle.config.specs.declared.PendingFlowsConfig.{PendingFlowsConfig}
 use Rattle.config.specs.Limits.{record_words}
 use Rattle.table.specs.declared.Entry.{Entry}
@@ -14,7 +14,7 @@ use Rattle.resize_steps.specs.Removing.{zeros, RemovesSkipped}
 
 -- a body stays by itself where it is not over the new entry size
 abbrev pub small_enough : PendingFlowsConfig → StayTest
-small_enough l = record { ttl = None; clock = 0; all = false; label = 1024; max_size = l.max_entry_size_bytes }
+small_enough l = record { ttl = None; clock = 0; only = Some 1024; max_size = l.max_entry_size_bytes }
 
 -- of held records the oldest bodies beyond the new cap; all bodies of the least recent ones beyond the new number, and
 -- of handed-out records

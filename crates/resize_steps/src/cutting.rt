@@ -1,15 +1,14 @@
 // Cutting to the new number of templates, entry size and cap.
-ghost use Rattle.std.specs.Prelude.{◌≡◌, ◌+◌, ◌*◌, ◌≤◌, length};
-ghost use Rattle.config.specs.Limits.{record_words, entry_words};
-ghost use Rattle.table.specs.Layout.{entries_at};
+ghost use Rattle.std.specs.Prelude.{◌≡◌, ◌+◌, length};
 ghost use Rattle.table.specs.Parts.{entries_of, templates_of};
+ghost use Rattle.pending_calls.specs.Removal.{RowsWithin};
 ghost use Rattle.resize_steps.specs.Cut.{small_enough, cut_skips, Cuts};
 
 use config::{ENTRY_WORDS, PendingFlowsConfig, RECORD_WORDS};
-use pending_calls::{Removed, remove};
+use pending_calls::{Removed, remove, stay_all};
 use pending_flows::HeaderFigures;
 use table::{LABELS, entries_in, records_in};
-use table_entries::{StayTest, sums_by_label};
+use table_entries::{StayTest, stays, sums_by_label};
 use table_records::{skip_over, skip_records};
 
 // The test by which bodies stay that are not over the new entry size. Their age plays no part.
@@ -17,11 +16,8 @@ fn small_enough(config: PendingFlowsConfig) -> StayTest
     ensures { result ≡ small_enough config }
 {
     StayTest {
-        ttl: None,
-        clock: 0,
-        all: false,
-        label: LABELS as u64,
         max_size: config.max_entry_size_bytes as u64,
+        ..stay_all()
     }
 }
 
@@ -38,7 +34,12 @@ fn skip_cut(
         (entries_of entries.now) skip.old }
 {
     let mut counts = [0u32; LABELS];
-    sums_by_label(entries, small_enough(config), false, &mut counts);
+    let test = small_enough(config);
+    sums_by_label(
+        entries,
+        |entry| stays(test, entry).then_some(1),
+        &mut counts,
+    );
     skip_over(held, config.max_entries_per_template, &counts, skip);
     let beyond = held.len().saturating_sub(config.max_pending_flows);
     skip_records(&held[..beyond], skip);
@@ -48,6 +49,7 @@ fn skip_cut(
 // Leaves as many templates as the new limits allow, the most recent, with the newest bodies that are small enough.
 // Nothing stays handed out.
 // The words and a place, no parts: `as_chunks_mut` says nothing of what the words end as.
+// The place and the figures, no header: that these are a cache's would be asked of the callers beside where they lie.
 #[tactic(auto, using(crate::proofs::Steps::cut_lem))]
 pub fn cut(
     words: &mut [u64],
@@ -55,9 +57,7 @@ pub fn cut(
     figures: HeaderFigures,
     config: PendingFlowsConfig,
 ) -> Removed
-    requires entries_bound { (entries_at + entry_words * figures.entries ≤ from) × (from
-        + record_words * (figures.templates + figures.chance) ≤ length words.old) }
-    requires handed_bound { figures.templates + figures.chance ≤ 1024 }
+    requires { RowsWithin from (figures.templates + figures.chance) figures.entries (length words.old) }
     ensures { Cuts config from figures.templates figures.chance figures.entries
         words.old words.new result }
 {

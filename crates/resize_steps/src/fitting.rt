@@ -1,11 +1,11 @@
 // Fitting what is left into the new total: its bytes, and their places.
-ghost use Rattle.std.specs.Prelude.{◌≡◌, true, ◌+◌, ◌*◌, ◌≤◌, length};
-ghost use Rattle.config.specs.Limits.{record_words, entry_words};
+ghost use Rattle.std.specs.Prelude.{◌≡◌, length};
 ghost use Rattle.table.specs.Layout.{entries_at};
 ghost use Rattle.table.specs.Parts.{entries_of, templates_of};
 ghost use Rattle.table.specs.Table.{entries_from};
-ghost use Rattle.table.specs.WellFormed.{places_legal};
+ghost use Rattle.table_entries.specs.Pack.{HoldsEntries};
 ghost use Rattle.table_entries.specs.Sums.{lens_sum};
+ghost use Rattle.pending_calls.specs.Removal.{RowsWithin};
 ghost use Rattle.resize_steps.specs.Fit.{total_skips, FitsTotal, FitsPlaces};
 
 use config::{ENTRY_WORDS, RECORD_WORDS};
@@ -27,7 +27,7 @@ fn skip_total(
         skip.old }
 {
     let mut sizes = [0u32; LABELS];
-    sums_by_label(entries, stay_all(), true, &mut sizes);
+    sums_by_label(entries, |entry| Some(entry.len), &mut sizes);
     let evicted = evictions_of(records, room, total, &sizes);
     skip_records(&records[..evicted], skip);
 }
@@ -36,8 +36,8 @@ fn skip_total(
 // The words and a place, no parts: `as_chunks_mut` says nothing of what the words end as.
 #[tactic(auto, using(crate::proofs::Steps::fit_total_lem))]
 pub fn fit_total(words: &mut [u64], from: usize, left: Removed, room: u64) -> Removed
-    requires entries_bound { (entries_at + entry_words * left.entries ≤ from) × (from + record_words * left.records ≤ length words.old) }
-    requires records_bound { (left.records ≤ 1024) × (left.bytes ≡ lens_sum (entries_from words.old entries_at left.entries)) }
+    requires rows_value { RowsWithin from left.records left.entries (length words.old) }
+    requires bytes_value { left.bytes ≡ lens_sum (entries_from words.old entries_at left.entries) }
     ensures { FitsTotal room from left.records left.entries words.old words.new result }
 {
     let mut skip = [0u32; LABELS];
@@ -62,8 +62,7 @@ pub fn fit_total(words: &mut [u64], from: usize, left: Removed, room: u64) -> Re
 // Moves the bodies together where they end past `room`; else no body moves.
 // The words and how many entries, no parts: `as_chunks_mut` says nothing of what the words end as.
 pub fn fit_places(words: &mut [u64], bytes: &mut [u8], entries: usize, room: u64)
-    requires { (entries_at + entry_words * entries ≤ length words.old) × (places_legal 0 (length bytes.old)
-        (entries_from words.old entries_at entries) ≡ true) }
+    requires { HoldsEntries entries words.old (length bytes.old) }
     ensures { FitsPlaces room entries words.old bytes.old words.new
         bytes.new }
 {

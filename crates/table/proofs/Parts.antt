@@ -2,7 +2,7 @@
 use Rattle.std.proofs.Common.{◌≡◌, ℕ, zero, suc, ◌+◌, ◌-◌, ◌<◌, ◌≤◌, List, [], ◌∷◌, length, take, drop, get_or, sym, refl, ap, ◌∙◌, arith, get_or-drop, get_or-take}
 use Rattle.std.specs.Prelude.{map}
 use Rattle.std.specs.Simd.{first_chunks}
-use Rattle.std.proofs.lemmas.List.{drop-drop, take_rest, drop_all, drop_more, drop-map, length-map}
+use Rattle.std.proofs.lemmas.List.{drop-drop, take_rest, drop_all, drop_more, take-map, drop-map, length-map}
 use Rattle.table.specs.Layout.{word}
 use Rattle.table.specs.Table.{entry_at, record_at, entries_from, records_from, index_from}
 use Rattle.table.specs.Parts.{entry_of, template_of, entries_of, templates_of, index_of}
@@ -70,6 +70,15 @@ module _ (w : List ℕ) (p n m : ℕ) (parts : List (List ℕ)) (enough : n ≤ 
 pub as_many : {X : Type 0} (f : List ℕ → X) (parts : List (List ℕ)) → length (map f parts) ≡ length parts
 as_many f parts = length-map parts f
 
+-- those of the first n parts are the first n, and those of the others the others
+pub first_parts : {X : Type 0} (f : List ℕ → X) (n : ℕ) (parts : List (List ℕ)) →
+    map f (take n parts) ≡ take n (map f parts)
+first_parts f n parts = sym (take-map f n parts)
+
+pub other_parts : {X : Type 0} (f : List ℕ → X) (n : ℕ) (parts : List (List ℕ)) →
+    map f (drop n parts) ≡ drop n (map f parts)
+other_parts f n parts = sym (drop-map f n parts)
+
 -- what the parts from the i-th on are: none, or the i-th and those behind it
 module _ {X : Type 0} (f : List ℕ → X) (parts : List (List ℕ)) (i : ℕ) where
   pub no_part : length parts ≤ i → drop i (map f parts) ≡ []
@@ -78,5 +87,5 @@ module _ {X : Type 0} (f : List ℕ → X) (parts : List (List ℕ)) (i : ℕ) w
   pub part_first : (x : X) → i < length parts → x ≡ f (get_or parts i []) →
       drop i (map f parts) ≡ x ∷ drop (i + 1) (map f parts)
   part_first x h is =
-      drop-map f i parts ∙ ap (map f) (drop_more parts i [] h)
-      ∙ rw (← is) (ap (λ xs. x ∷ xs) (sym (drop-map f (i + 1) parts)))
+      sym (other_parts f i parts) ∙ ap (map f) (drop_more parts i [] h)
+      ∙ rw (← is) (ap (λ xs. x ∷ xs) (other_parts f (i + 1) parts))

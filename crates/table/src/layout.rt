@@ -37,6 +37,7 @@ pub const CHANCE_COUNT: usize = 11;
 pub const INDEX: usize = 3;
 
 // The entry whose first word is at p.
+// By a place, beside `entry_of`: for those that write entries, who have no parts.
 pub fn entry_at(words: &[u64], p: usize) -> Entry
     requires { p + entry_words ≤ length words.now }
     ensures { result ≡ entry_at words.now p }
@@ -50,6 +51,7 @@ pub fn entry_at(words: &[u64], p: usize) -> Entry
 }
 
 // The record whose first word is at p.
+// By a place, beside `template_of`: for those that write records, who have no parts.
 pub fn record_at(words: &[u64], p: usize) -> TemplateRecord
     requires { p + record_words ≤ length words.now }
     ensures { result ≡ record_at words.now p }
@@ -83,6 +85,7 @@ pub fn template_of(words: &[u64; RECORD_WORDS]) -> TemplateRecord
 }
 
 // The words of so many entries, each by itself.
+// A number beside the words: the area goes on behind the entries, and the header says how many they are.
 pub fn entries_in(words: &[u64], entries: usize) -> &[[u64; ENTRY_WORDS]]
     requires { entries_at + entry_words * entries ≤ length words.now }
     ensures entries { entries_of result.now ≡ entries_from words.now entries_at entries }
@@ -93,6 +96,7 @@ pub fn entries_in(words: &[u64], entries: usize) -> &[[u64; ENTRY_WORDS]]
 }
 
 // The words of so many records from word `from` on, each by itself.
+// A place and a number beside the words: where the records begin, the limits say, and how many they are, the header.
 pub fn records_in(words: &[u64], from: usize, records: usize) -> &[[u64; RECORD_WORDS]]
     requires { from + record_words * records ≤ length words.now }
     ensures templates { templates_of result.now ≡ records_from words.now from records }
@@ -104,13 +108,14 @@ pub fn records_in(words: &[u64], from: usize, records: usize) -> &[[u64; RECORD_
 }
 
 // The time to live that a flag and a word say.
-fn ttl_of(set: u64, ttl: u64) -> Option<u64>
+pub fn ttl_of(set: u64, ttl: u64) -> Option<u64>
     ensures { result ≡ ttl_of set ttl }
 {
-    if set == 0 { None } else { Some(ttl) }
+    (set != 0).then_some(ttl)
 }
 
 // The configured limits.
+// The words, no array of the header's alone: what is promised here and behind is of all the words.
 pub fn limits_at(words: &[u64]) -> PendingFlowsConfig
     requires { header_words ≤ length words.now }
     ensures { result ≡ limits_of words.now }

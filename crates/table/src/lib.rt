@@ -8,7 +8,7 @@ mod reads;
 
 pub use layout::{
     CACHED, CHANCE_COUNT, DROPPED, ENTRY_COUNT, HELD_COUNT, INDEX, TOTAL, TTL_SET, entries_in,
-    entry_at, entry_of, limits_at, record_at, records_at, records_in, template_of,
+    entry_at, entry_of, limits_at, record_at, records_at, records_in, template_of, ttl_of,
 };
 pub use reads::{count_in, count_of, first_label, label_number, label_of, live_figures, record_of};
 

@@ -3,7 +3,7 @@
 use Rattle.std.proofs.Common.{Result, Ok, Err}
 use Rattle.std.specs.Prelude.{⊤}
 use Rattle.table.specs.declared.Damaged.{Damaged}
-use mathlib.Core.Path.{◌≡◌, refl, ap, sym, ◌∙◌}
+use mathlib.Core.Path.{◌≡◌, refl, ap, sym, subst, ◌∙◌}
 use mathlib.Core.Bool.{Bool, true, false, ◌&&◌, and_assoc}
 use mathlib.Core.List.{List}
 use Prim.Native.Nat.{ℕ, ◌+◌, ◌≤◌, ◌<◌}
@@ -50,11 +50,11 @@ module _ (w : List ℕ) (bytes : ℕ) where
       legal : LegalLimits l bytes (length w)
       legal = limits_say l bytes (length w) (sym said ∙ ap answer_number accepted)
 
-      pub has_template : 0 < l.max_pending_flows
-      has_template = legal.some_templates
+      pub has_template : 0 < (limits_of w).max_pending_flows
+      has_template = subst (λ (c : PendingFlowsConfig). 0 < c.max_pending_flows) is legal.some_templates
 
-      pub few_bodies : max_bodies l ≤ 262144
-      few_bodies = legal.bodies_few
+      pub few_bodies : max_bodies (limits_of w) ≤ 262144
+      few_bodies = subst (λ (c : PendingFlowsConfig). max_bodies c ≤ 262144) is legal.bodies_few
 
       -- the header's first tests hold, and leave it to the others
       left_to : (r : Bool) → r ≡ flags_legal w && counts_legal w && table_legal (table_of w) (index w) →

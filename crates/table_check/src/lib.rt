@@ -6,7 +6,7 @@
 ghost use Rattle.std.specs.Prelude.{◌≡◌, ◌&&◌, ◌<◌, ◌≤◌, length};
 ghost use Rattle.config.specs.Limits.{header_words, max_bodies};
 ghost use Rattle.table.specs.Layout.{limits_of};
-ghost use Rattle.table.specs.WellFormed.{flags_legal, counts_legal, well_formed};
+ghost use Rattle.table.specs.WellFormed.{flags_legal, counts_legal};
 ghost use Rattle.table_check.specs.Header.{HeaderLegal};
 ghost use Rattle.table_check.specs.Room.{RoomForAllowances};
 ghost use Rattle.table_check.specs.Examined.{table_examined, examined};
@@ -47,17 +47,7 @@ fn test_table(
     let out = label_number(first_label(handed));
     let watch = watch_for(held, limits.ttl, out, sought);
     let entries = entries_in(words, words[ENTRY_COUNT] as usize);
-    let max_size = limits.max_entry_size_bytes as u64;
-    let max_total = limits.max_total_bytes as u64;
-    entries_pass(
-        entries,
-        allow,
-        max_size,
-        max_total,
-        out,
-        words[TOTAL],
-        watch,
-    )
+    entries_pass(entries, allow, limits, out, words[TOTAL], watch)
 }
 
 // Tests a table whose header is legal, and looks for what is sought.
@@ -82,23 +72,19 @@ fn examine_table(
 }
 
 // Whether the flags are flags, and the words have no more templates and entries than the limits.
-fn counts_legal(words: &[u64], limits: PendingFlowsConfig) -> bool
-    requires header_words_in_bounds { (header_words ≤ length words.now) × (limits ≡ limits_of words.now) }
-    requires max_pending_flows_nonzero { (0 < limits.max_pending_flows) × (max_bodies limits ≤ 262144) }
+fn counts_legal(words: &[u64]) -> bool
+    requires header_words_in_bounds { header_words ≤ length words.now }
+    requires max_pending_flows_nonzero { (0 < (limits_of words.now).max_pending_flows) ×
+        (max_bodies (limits_of words.now) ≤ 262144) }
     ensures { result ≡ (flags_legal words.now && counts_legal words.now) }
 {
+    let limits = limits_at(words);
     let templates = limits.max_pending_flows as u64;
-    if 1 < words[TTL_SET] {
-        return false;
-    }
     let chance = words[CHANCE_COUNT];
-    if 1 < chance {
-        return false;
-    }
-    if templates - chance < words[HELD_COUNT] {
-        return false;
-    }
-    words[ENTRY_COUNT] <= templates * (limits.max_entries_per_template as u64)
+    words[TTL_SET] <= 1
+        && chance <= 1
+        && words[HELD_COUNT] <= templates - chance
+        && words[ENTRY_COUNT] <= templates * (limits.max_entries_per_template as u64)
 }
 
 // Whether the words, beside so many bytes, hold a well-formed table, and what is seen of what is sought in it.
@@ -109,18 +95,12 @@ pub fn examine(words: &[u64], bytes_len: usize, sought: Sought) -> Result<LabelS
         return Err(Damaged);
     }
     let limits = limits_at(words);
+    // no `map_err` and `?`: tried, and what is answered then did not close
     let Ok(()) = validate_config(limits, bytes_len, words.len()) else {
         return Err(Damaged);
     };
-    if !counts_legal(words, limits) {
+    if !counts_legal(words) {
         return Err(Damaged);
     }
     examine_table(words, limits, sought)
-}
-
-// Whether the words, beside so many bytes, hold a well-formed table; number 28 answers where they do not.
-pub fn well_formed(words: &[u64], bytes_len: usize) -> bool
-    ensures { result ≡ well_formed words.now bytes_len }
-{
-    examine(words, bytes_len, Sought::Nothing).is_ok()
 }

@@ -3,12 +3,12 @@
 
 ghost use Rattle.std.specs.Prelude.{◌≡◌, ◌+◌, ◌*◌, ◌≤◌, length, get_or};
 ghost use Rattle.config.specs.Limits.{record_words};
-ghost use Rattle.table_records.specs.Close.{nowhere, Closes};
+ghost use Rattle.table_records.specs.Close.{nowhere, position_told, Closes};
 ghost use Rattle.table_records.specs.Passes.{ClosesRecords};
 
 use config::RECORD_WORDS;
 use table::{LABELS, TemplateRecord, record_at};
-use table_records::{NOWHERE, close_index, put_record, sum_of};
+use table_records::{NOWHERE, close_index, position_told, put_record, sum_of};
 
 // Moves the records that remain together, with their counts anew, and notes the new position of each.
 // The words and a place, no parts: `as_chunks_mut` says nothing of what the words end as.
@@ -43,13 +43,12 @@ fn close_records(
     remain
 }
 
-// The new position of a record.
-fn position_of(positions: &[u32], position: u64) -> u64
-    ensures { result ≡ get_or positions.now position nowhere }
+// The new position of a record, if it remains.
+fn position_of(positions: &[u32], position: u64) -> Option<u64>
+    ensures { result ≡ position_told (get_or positions.now position nowhere) }
 {
-    positions
-        .get(position as usize)
-        .map_or(NOWHERE, |moved| *moved as u64)
+    let moved = positions.get(position as usize)?;
+    position_told(u64::from(*moved))
 }
 
 // Closes the records from word `from` on and returns how many remain.

@@ -1,4 +1,5 @@
 pub mod SumsPasses
+pub mod Shares
 pub mod LabelSums
 pub mod Lengths
 pub mod Frames

@@ -1,13 +1,12 @@
 -- Packing all entries where they stand: the pass that keeps each of them. Assumes nothing.
-use Rattle.std.proofs.Common.{◌≡◌, ℕ, ◌+◌, ◌-◌, ◌*◌, ◌<◌, ◌≤◌, true, List, length, set, sym, refl, ap, subst, ◌∙◌, arith, get_or-set_other}
+use Rattle.std.proofs.Common.{◌≡◌, ℕ, ◌+◌, ◌-◌, ◌*◌, ◌<◌, ◌≤◌, List, length, set, sym, refl, ap, subst, ◌∙◌, arith, get_or-set_other}
 use lib.Seq.{set-get_or}
 use Rattle.config.specs.Limits.{entry_words}
 use Rattle.table.specs.declared.Entry.{Entry}
 use Rattle.table.specs.Layout.{word, entries_at}
 use Rattle.table.specs.Table.{entry_at, entries_from}
-use Rattle.table.specs.WellFormed.{places_legal}
 use Rattle.table_entries.specs.declared.pack.Run.{Run}
-use Rattle.table_entries.specs.Pack.{MovesRun, ReachesTo, KeepsPacked, Packs}
+use Rattle.table_entries.specs.Pack.{HoldsEntries, MovesRun, ReachesTo, KeepsPacked, Packs}
 use Rattle.table_entries.specs.Sweep.{put_entry}
 use Rattle.table_entries.proofs.Packed.{placed_at}
 use Rattle.table_entries.proofs.PackPass.{PackedSoFar, none_packed, all_packed_up, entry_packed}
@@ -27,11 +26,9 @@ EntriesPacked entries w₀ b₀ w b run i =
     PackedSoFar (λ es. es) (entries_from w₀ entries_at entries) entries w₀ b₀ w b run i (entries - i)
     (entries_at + entry_words * i) (entries_at + entry_words * i)
 
-pub none_packed_yet : (entries : ℕ) (w b : List ℕ) → entries_at + entry_words * entries ≤ length w →
-    places_legal 0 (length b) (entries_from w entries_at entries) ≡ true →
+pub none_packed_yet : (entries : ℕ) (w b : List ℕ) → HoldsEntries entries w (length b) →
     EntriesPacked entries w b w b (record { from = 0; to = 0; len = 0 }) 0
-none_packed_yet entries w b room legal =
-    none_packed (λ es. es) entries w b (omega arith) room legal
+none_packed_yet entries w b holds = none_packed (λ es. es) entries w b (omega arith) holds
 
 module _ {entries : ℕ} {w₀ b₀ w b : List ℕ} {run : Run} {i : ℕ} (inv : EntriesPacked entries w₀ b₀ w b run i) where
   pub all_packed : entries ≤ i → (b' : List ℕ) (end : ℕ) → MovesRun run b b' end → Packs entries w₀ b₀ w b' end

@@ -1,17 +1,16 @@
 -- A pass over the entries that keeps some, closes them up and packs their bodies, turn by turn, whatever tells which.
 -- Assumes nothing.
-use Rattle.std.proofs.Common.{◌≡◌, ℕ, ◌+◌, ◌-◌, ◌*◌, ◌^◌, ◌<◌, ◌≤◌, true, List, [], ◌∷◌, ◌++◌, length, take, drop, sym, refl, ap, ◌∙◌, append_assoc, append-nil, arith}
+use Rattle.std.proofs.Common.{◌≡◌, ℕ, ◌+◌, ◌-◌, ◌*◌, ◌^◌, ◌<◌, ◌≤◌, List, [], ◌∷◌, ◌++◌, length, take, drop, sym, refl, ap, ◌∙◌, append_assoc, append-nil, arith}
 use Rattle.config.specs.Limits.{entry_words}
 use Rattle.areas.specs.Overwrite.{moved}
 use Rattle.areas.proofs.Moves.{length_moved, moved_none, moved_on}
 use Rattle.table.specs.declared.Entry.{Entry}
 use Rattle.table.specs.Layout.{entries_at}
 use Rattle.table.specs.Table.{entry_at, entries_from}
-use Rattle.table.specs.WellFormed.{places_legal}
 use Rattle.table.proofs.Words.{entries_first, entries_none}
 use Rattle.table.proofs.Facts.{Placed, places_say}
 use Rattle.table_entries.specs.declared.pack.Run.{Run}
-use Rattle.table_entries.specs.Pack.{packed_entries, packed_end, packed_bytes, MovesRun, ReachesTo, KeepsPacked}
+use Rattle.table_entries.specs.Pack.{packed_entries, packed_end, packed_bytes, HoldsEntries, MovesRun, ReachesTo, KeepsPacked}
 use Rattle.table_entries.specs.Sweep.{put_entry}
 use Rattle.table_entries.proofs.Frames.{entries_below, entries_above, entries_more, length_put, take_put}
 use Rattle.table_entries.proofs.Frames.{drop_put, entry_put}
@@ -55,21 +54,20 @@ pub record PackedSoFar (keep : List Entry → List Entry) (whole : List Entry) (
   pub tail : drop (entries_at + entry_words * entries) w ≡ drop (entries_at + entry_words * entries) w₀
 
 pub none_packed : (keep : List Entry → List Entry) (entries : ℕ) (w b : List ℕ) {left : ℕ} → left ≡ entries →
-    entries_at + entry_words * entries ≤ length w → places_legal 0 (length b) (entries_from w entries_at entries) ≡
-    true →
+    HoldsEntries entries w (length b) →
     PackedSoFar keep (keep (entries_from w entries_at entries)) entries w b w b (record { from = 0; to = 0; len = 0 })
     0 left entries_at entries_at
 unfolding entries_from
-none_packed keep entries w b all room legal = rw all record {
+none_packed keep entries w b all holds = rw all record {
   filled = refl;
   reached = refl;
-  within = room;
+  within = holds.in_words;
   few = omega arith;
   same_words = refl;
   same_bytes = refl;
   down = omega arith;
   source = omega arith;
-  placed = places_say 0 (length b) (entries_from w entries_at entries) legal;
+  placed = places_say 0 (length b) (entries_from w entries_at entries) holds.in_bytes;
   rest = refl;
   rest_bytes = ap (packed_bytes 0 (keep (entries_from w entries_at entries))) (sym (moved_none 0 0 b));
   rest_end = refl;

@@ -1,11 +1,17 @@
 -- Bodies moved together towards the front of the byte area, in table order.
-use Rattle.std.specs.Prelude.{◌≡◌, ℕ, ◌+◌, ◌*◌, ◌≤◌, List, [], ◌∷◌, length, take, drop}
+use Rattle.std.specs.Prelude.{◌≡◌, ℕ, ◌+◌, ◌*◌, ◌≤◌, true, List, [], ◌∷◌, length, take, drop}
 use Rattle.areas.specs.Overwrite.{moved}
 use Rattle.config.specs.Limits.{entry_words}
 use Rattle.table.specs.declared.Entry.{Entry}
 use Rattle.table.specs.Layout.{entries_at}
 use Rattle.table.specs.Table.{entries_from}
+use Rattle.table.specs.WellFormed.{places_legal}
 use Rattle.table_entries.specs.declared.pack.Run.{Run}
+
+-- the words hold m entries, whose bodies lie one behind the other within n bytes
+pub record HoldsEntries (m : ℕ) (w : List ℕ) (n : ℕ) : Type 0 where
+  pub in_words : entries_at + entry_words * m ≤ length w
+  pub in_bytes : places_legal 0 n (entries_from w entries_at m) ≡ true
 
 -- the end of the last entry's body; 0 where there is none
 unfoldable pub last_end : List Entry → ℕ

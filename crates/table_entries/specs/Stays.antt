@@ -1,12 +1,17 @@
 -- Which entries stay, each by itself.
-use Rattle.std.specs.Prelude.{Bool, not, ◌&&◌, ◌||◌, ◌==◌, nat_le}
+use Rattle.std.specs.Prelude.{Option, Some, None, ℕ, Bool, true, not, ◌&&◌, ◌==◌, nat_le}
 use Rattle.config.specs.Age.{expired_at}
 use Rattle.table.specs.declared.Entry.{Entry}
 use Rattle.table_entries.specs.declared.StayTest.{StayTest}
 
--- whether an entry is of the aged label, or of any, and is expired
+-- whether the bodies of a label are aged: it is the only one, or every label's are
+abbrev pub is_aged : Option ℕ → ℕ → Bool
+is_aged (Some only) label = only == label
+is_aged None label = true
+
+-- whether an entry is of an aged label, and is expired
 abbrev pub aged : StayTest → Entry → Bool
-aged q e = (q.all || q.label == e.label) && expired_at q.ttl q.clock e.clock
+aged q e = is_aged q.only e.label && expired_at q.ttl q.clock e.clock
 
 -- it is not, and it is not too large
 unfoldable pub stays : StayTest → Entry → Bool

@@ -1,5 +1,5 @@
 -- Sums over entries: by label, in arrays of one 32-bit number for each label, and of lengths.
-use Rattle.std.specs.Prelude.{ℕ, ◌+◌, ◌%◌, ◌^◌, min, Bool, cond, ◌&&◌, List, [], ◌∷◌, ◌==◌, slice_index, slice_set}
+use Rattle.std.specs.Prelude.{Option, Some, None, ◌≡◌, ℕ, ◌+◌, ◌%◌, ◌^◌, ◌<◌, min, Bool, cond, ◌&&◌, List, [], ◌∷◌, ◌==◌, slice_index, slice_set}
 use Rattle.table.specs.declared.Entry.{Entry}
 use Rattle.table_entries.specs.declared.StayTest.{StayTest}
 use Rattle.table_entries.specs.Stays.{stays}
@@ -15,6 +15,11 @@ more_at sums i n = slice_set sums i (min (slice_index sums i + n) sum_most)
 -- what an entry adds: its length, or one
 abbrev pub share : Bool → Entry → ℕ
 share bytes e = cond bytes e.len 1
+
+-- of each entry, what is answered is what it adds, if it stays by itself
+abbrev pub TellsShares : (Entry → Option ℕ → Type 0) → StayTest → Bool → Type 0
+TellsShares answers q bytes =
+    (e : Entry) (n : Option ℕ) → e.len < 2 ^ 64 → answers e n → n ≡ cond (stays q e) (Some (share bytes e)) None
 
 -- the sums by label, over the entries that stay by themselves
 unfoldable pub summed : StayTest → Bool → List ℕ → List Entry → List ℕ

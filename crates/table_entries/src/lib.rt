@@ -11,14 +11,12 @@ pub use stay::stays;
 pub use sums::sums_by_label;
 pub use sweeps::{Kept, move_entry, put_entry, sweep};
 
-// Which bodies stay, each by itself: one that is expired goes, where its label or every label is aged, and one that is
-// too large.
-// A flag beside the label and no Option: an offer's plan tells both, and its label has other uses where all are aged.
+// Which bodies stay, each by itself: one that is expired goes, where its label is the only one that is aged or every
+// label is, and one that is too large.
 #[derive(Clone, Copy)]
 pub struct StayTest {
     pub ttl: Option<u64>,
     pub clock: u64,
-    pub all: bool,
-    pub label: u64,
+    pub only: Option<u64>,
     pub max_size: u64,
 }

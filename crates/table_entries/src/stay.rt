@@ -14,7 +14,7 @@ pub fn stays(test: StayTest, entry: Entry) -> bool
     if test.max_size < entry.len {
         return false;
     }
-    if !test.all && test.label != entry.label {
+    if test.only.is_some_and(|label| label != entry.label) {
         return true;
     }
     !is_expired(test.ttl, test.clock, entry.clock)

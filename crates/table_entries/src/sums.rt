@@ -1,10 +1,9 @@
 // Sums over entries.
-ghost use Rattle.std.specs.Prelude.{◌≡◌, ◌+◌, min, length};
+ghost use Rattle.std.specs.Prelude.{Bool, ◌≡◌, ◌+◌, min};
 ghost use Rattle.table.specs.Parts.{entries_of};
-ghost use Rattle.table_entries.specs.Sums.{sum_most, more_at, share, summed};
+ghost use Rattle.table_entries.specs.declared.StayTest.{StayTest};
+ghost use Rattle.table_entries.specs.Sums.{sum_most, more_at, summed, TellsShares};
 
-use super::StayTest;
-use super::stay::stays;
 use config::ENTRY_WORDS;
 use table::{Entry, LABELS, entry_of};
 
@@ -16,6 +15,7 @@ fn capped_sum(sum: u32, n: u64) -> u32
 }
 
 // Adds n to a label's sum. A label that is none has no sum.
+// A test of the length: of `get_mut` std does not say what the slice ends as.
 #[tactic(auto, using(crate::proofs::SumsPasses::none_added))]
 fn add_at(sums: &mut [u32; LABELS], label: u64, n: u64)
     ensures { sums.new ≡ more_at sums.old label n }
@@ -26,29 +26,21 @@ fn add_at(sums: &mut [u32; LABELS], label: u64, n: u64)
     }
 }
 
-// What an entry adds: its length, or one.
-// A flag and no closure: the promise has the flag too, so that a clause would have to tie the closure's answers to it.
-fn share_of(entry: Entry, bytes: bool) -> u64
-    ensures { result ≡ share bytes entry }
-{
-    if bytes { entry.len } else { 1 }
-}
-
-// Adds to each label's sum the lengths, or the number, of its entries that stay by themselves.
+// Adds to each label's sum what `share` tells of each of its entries; an entry of which nothing is told adds nothing.
 #[tactic(auto, using(crate::proofs::SumsPasses::passes))]
-pub fn sums_by_label(
+pub fn sums_by_label<F: Fn(Entry) -> Option<u64>>(
     entries: &[[u64; ENTRY_WORDS]],
-    test: StayTest,
-    bytes: bool,
+    share: F,
     sums: &mut [u32; LABELS],
 )
-    requires { length sums.old ≡ 1024 }
-    ensures { sums.new ≡ summed test bytes sums.old (entries_of entries.now) }
+    requires { F.IsAlwaysCallable share }
+    ensures { (test : StayTest) (bytes : Bool) → TellsShares (F.post share) test bytes →
+        sums.new ≡ summed test bytes sums.old (entries_of entries.now) }
 {
     for words in entries {
         let entry = entry_of(words);
-        if stays(test, entry) {
-            add_at(sums, entry.label, share_of(entry, bytes));
+        if let Some(more) = share(entry) {
+            add_at(sums, entry.label, more);
         }
     }
 }

@@ -18,6 +18,7 @@ pub struct Kept {
 }
 
 // Takes one off what is to be skipped of a label; whether there was one. Of a label that is none there is none.
+// A test of the length: of `get_mut` std does not say what the slice ends as.
 #[tactic(auto, using(crate::proofs::SweepPass::spending))]
 fn spend(skip: &mut [u32; LABELS], label: u64) -> bool
     ensures { Spends label skip.old skip.new result }
@@ -56,7 +57,7 @@ pub fn move_entry(words: &mut [u64], from: usize, to: usize)
 // Keeps of the entries those that stay and are not skipped, in order.
 // The words and how many entries, no parts: `as_chunks_mut` says nothing of what the words end as.
 pub fn sweep(words: &mut [u64], entries: usize, test: StayTest, skip: &mut [u32; LABELS]) -> Kept
-    requires { (entries_at + entry_words * entries ≤ length words.old) × (length skip.old ≡ 1024) }
+    requires { entries_at + entry_words * entries ≤ length words.old }
     ensures { KeepsOnly (swept test skip.old (entries_from words.old entries_at entries)) entries
         words.old words.new result }
 {

@@ -1,10 +1,16 @@
 -- The pass over the entries, turn by turn. Assumes nothing.
-use Rattle.std.proofs.Common.{◌≡◌, ℕ, ◌+◌, ◌-◌, ◌^◌, ◌<◌, ◌≤◌, Bool, true, false, ◌&&◌, eqb, leb, ltb, List, [], ◌∷◌, length, drop, get_or, set, refl, sym, ◌∙◌, arith, lt-ltb, le-leb, leb-true, eq-eqb, ne_eqb, length-set}
-use lib.ListN.{get_or-eq_default}
+use Rattle.std.proofs.Common.{◌≡◌, ℕ, ◌+◌, ◌-◌, ◌^◌, ◌<◌, ◌≤◌, Bool, true, false, ◌&&◌, eqb, leb, ltb, List, [], ◌∷◌, length, drop, get_or, set, refl, sym, ◌∙◌, arith, lt-ltb, le-leb, leb-true, eq-eqb, ne_eqb, length-set, ap, Option, Result, Ok, Err}
+use mathlib.Core.Bool.{false≢true}
+use Rattle.std.specs.Borrow.{Bor}
+use Rattle.std.specs.Slice.{IsItemAt}
+use Rattle.std.specs.Option.{option_copied, unwrap_or}
+use Rattle.std.specs.Result.{IsErr, result_ok}
+use Rattle.table.specs.declared.Damaged.{Damaged}
 use borrow.Author.Tests.{lt-leb}
 use Rattle.config.proofs.Tests.{and_left, and_right}
 use Rattle.table.specs.declared.Entry.{Entry}
 use Rattle.table.specs.Passes.{held_len, less_at}
+use Rattle.table_watch.specs.declared.LabelSeen.{LabelSeen}
 use Rattle.table_entry_test.specs.EntriesPass.{entry_fits, one_less, entries_pass}
 use Rattle.table.proofs.Labels.{adds_within}
 
@@ -28,6 +34,23 @@ module _ (allowed : ℕ) where
   one_less_of : (allowed ≡ 0 → ⊥) → one_less allowed ≡ allowed - 1
   unfolding one_less
   one_less_of h = simp (ne_eqb allowed 0 h)
+
+-- there is one refusal
+pub refused : (r : Result LabelSeen Damaged) → IsErr r → r ≡ Err (record {})
+refused (Ok s) h = absurd (false≢true h)
+refused (Err d) h = refl
+
+-- an allowance, as `get` reads it: where there is none it is 0
+module _ (allow : List ℕ) (label : ℕ) (o : Option (Bor ℕ)) (r : Result (Bor ℕ) Damaged)
+    (is : IsItemAt allow label o) (told : o ≡ result_ok r) where
+  got : unwrap_or (option_copied (result_ok r)) 0 ≡ get_or allow label 0
+  got = ap (λ x. unwrap_or (option_copied x) 0) (sym told) ∙ is.4 (omega arith) 0
+
+  pub allowance_read : {x : Bor ℕ} → r ≡ Ok x → x.now ≡ get_or allow label 0
+  allowance_read e = rw e at got
+
+  pub no_allowance : {x : Damaged} → r ≡ Err x → 0 ≡ get_or allow label 0
+  no_allowance e = rw e at got
 
 -- the first i entries are passed: they end at `end`, and their held lengths sum to `held`
 pub record EntriesPassed (es : List Entry) (size most out total : ℕ) (allow₀ allow : List ℕ) (end held i : ℕ) : Type 0
@@ -71,36 +94,34 @@ module _ {es : List Entry} {size most out total : ℕ} {allow₀ allow : List �
     unfolding entries_pass
     next_test = rw some at inv.test
 
-    pub none_left : get_or allow e.label 0 ≡ 0 → false ≡ entries_pass size most out total 0 allow₀ 0 es
-    none_left h = rw h at next_test
+    module _ {allowed : ℕ} (read : allowed ≡ get_or allow e.label 0) where
+      pub none_left : allowed ≡ 0 → false ≡ entries_pass size most out total 0 allow₀ 0 es
+      none_left h = rw (← read, h) at next_test
 
-    -- what is no label here is allowed none
-    pub large_label : length allow ≤ e.label → false ≡ entries_pass size most out total 0 allow₀ 0 es
-    large_label h = none_left (get_or-eq_default allow 0 h)
+      module _ (some_left : allowed ≡ 0 → ⊥) (t : Bool) (told : t ≡ entry_fits size end e) where
+        pub misplaced : t ≡ false → false ≡ entries_pass size most out total 0 allow₀ 0 es
+        misplaced h = rw (← read, lt-ltb 0 allowed (omega arith), ← told, h) at next_test
 
-    module _ (some_left : get_or allow e.label 0 ≡ 0 → ⊥) (t : Bool) (told : t ≡ entry_fits size end e) where
-      pub misplaced : t ≡ false → false ≡ entries_pass size most out total 0 allow₀ 0 es
-      misplaced h = rw (lt-ltb 0 (get_or allow e.label 0) (omega arith), ← told, h) at next_test
+        module _ (holds : t ≡ true) where
+          fits_there : Fits size end e
+          fits_there = fits_says size end e (sym told ∙ holds)
 
-      module _ (holds : t ≡ true) where
-        fits_there : Fits size end e
-        fits_there = fits_says size end e (sym told ∙ holds)
+          pub end_fits : size ≤ 67108864 → e.place + e.len < 2 ^ 64
+          end_fits m = let f = fits_there in omega arith
 
-        pub end_fits : size ≤ 67108864 → e.place + e.len < 2 ^ 64
-        end_fits m = let f = fits_there in omega arith
+          pub held_fits : size ≤ 67108864 → {add : ℕ} → add ≡ held_len out e → held + add < 2 ^ 64
+          held_fits m h = let f = fits_there in omega (arith, adds_within out e)
 
-        pub held_fits : size ≤ 67108864 → {add : ℕ} → add ≡ held_len out e → held + add < 2 ^ 64
-        held_fits m h = let f = fits_there in omega (arith, adds_within out e)
+          later_test : entries_pass size most out total (e.place + e.len) (less_at allow e.label)
+              (held + held_len out e) (drop (i + 1) es) ≡ entries_pass size most out total 0 allow₀ 0 es
+          later_test = rw (lt-ltb 0 (get_or allow e.label 0) (omega arith), ← told, holds) at next_test
 
-        later_test : entries_pass size most out total (e.place + e.len) (less_at allow e.label)
-            (held + held_len out e) (drop (i + 1) es) ≡ entries_pass size most out total 0 allow₀ 0 es
-        later_test = rw (lt-ltb 0 (get_or allow e.label 0) (omega arith), ← told, holds) at next_test
-
-        pub entry_passed : {add less : ℕ} → add ≡ held_len out e → less ≡ one_less (get_or allow e.label 0) →
-            EntriesPassed es size most out total allow₀ (set allow e.label less) (e.place + e.len) (held + add) (i + 1)
-        entry_passed added taken = let f = fits_there in record {
-          same_long = length-set allow e.label _ ∙ inv.same_long;
-          no_more = omega (arith, adds_within out e);
-          within = omega arith;
-          test = rw (added, taken, one_less_of (get_or allow e.label 0) some_left) later_test;
-        }
+          pub entry_passed : {add less : ℕ} → add ≡ held_len out e → less ≡ one_less allowed →
+              EntriesPassed es size most out total allow₀ (set allow e.label less) (e.place + e.len) (held + add)
+              (i + 1)
+          entry_passed added taken = let f = fits_there in record {
+            same_long = length-set allow e.label _ ∙ inv.same_long;
+            no_more = omega (arith, adds_within out e);
+            within = omega arith;
+            test = rw (added, taken, one_less_of allowed some_left, read) later_test;
+          }

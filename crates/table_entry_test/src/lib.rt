@@ -2,15 +2,15 @@
 // query or an offer is about.
 #![tactic(auto)]
 
-ghost use Rattle.std.specs.Prelude.{◌≡◌, ◌^◌, ◌<◌, ◌≤◌, length};
+ghost use Rattle.std.specs.Prelude.{◌≡◌, ◌<◌, ◌≤◌};
 ghost use Rattle.table.specs.Parts.{entries_of};
 ghost use Rattle.table.specs.Passes.{held_len};
 ghost use Rattle.table_watch.specs.Watch.{seen_by, judged};
 ghost use Rattle.table_entry_test.specs.EntriesPass.{entry_fits, one_less, entries_pass};
 
-use config::{ENTRY_WORDS, MAX_BYTES};
+use config::{ENTRY_WORDS, MAX_BYTES, PendingFlowsConfig};
 use table::{Damaged, Entry, entry_of};
-use table_watch::{LabelSeen, Passed, Watch, label_seen, pass_entry};
+use table_watch::{LabelSeen, Watch, pass_entry};
 
 // Whether a body is within the entry size, and begins at `end` or above, within the longest area. Bodies follow one
 // another, so where they end is tested of the last one alone.
@@ -39,46 +39,44 @@ fn one_less(allowed: u32) -> u32
 }
 
 // The pass over the entries: each takes one of its label's allowance, bodies follow one another, and the last one ends
-// within the total. What is watched is seen on the way.
+// within the total. What is watched is seen on the way. The last two tests are two for speed: as one, the loop is
+// compiled to other places, and of those every second takes a tenth longer.
 pub fn entries_pass(
     entries: &[[u64; ENTRY_WORDS]],
     allow: &mut [u32],
-    max_size: u64,
-    max_total: u64,
+    limits: PendingFlowsConfig,
     out: u64,
     total: u64,
     watch: Watch,
 ) -> Result<LabelSeen, Damaged>
-    requires max_size_bound { max_size ≤ 67108864 }
-    ensures { result ≡ judged (entries_pass max_size max_total out total 0 allow.old 0
-        (entries_of entries.now)) (seen_by watch (entries_of entries.now)) }
+    requires max_size_bound { limits.max_entry_size_bytes ≤ 67108864 }
+    ensures { result ≡ judged (entries_pass limits.max_entry_size_bytes limits.max_total_bytes out total 0
+        allow.old 0 (entries_of entries.now)) (seen_by watch (entries_of entries.now)) }
 {
+    let max_size = limits.max_entry_size_bytes as u64;
     let mut end: u64 = 0;
     let mut held: u64 = 0;
-    let mut passed = Passed { live: 0, left: 0 };
-    for (i, words) in entries.iter().enumerate() {
+    let mut seen = LabelSeen {
+        live: 0,
+        found: None,
+    };
+    for words in entries {
         let entry = entry_of(words);
-        if (allow.len() as u64) <= entry.label {
-            return Err(Damaged);
-        }
         let label = entry.label as usize;
-        let allowed = allow[label];
+        let allowed = *allow.get(label).ok_or(Damaged)?;
         allow[label] = one_less(allowed);
-        if allowed == 0 {
-            return Err(Damaged);
-        }
-        if !entry_fits(entry, max_size, end) {
+        if allowed == 0 || !entry_fits(entry, max_size, end) {
             return Err(Damaged);
         }
         end = entry.place + entry.len;
         held += held_len(entry, out);
-        passed = pass_entry(words, entry, entries.len() - i, passed, watch);
+        seen = pass_entry(words, entry, seen, watch);
     }
-    if max_total < end {
+    if (limits.max_total_bytes as u64) < end {
         return Err(Damaged);
     }
     if held != total {
         return Err(Damaged);
     }
-    Ok(label_seen(entries, passed, watch.nth))
+    Ok(seen)
 }

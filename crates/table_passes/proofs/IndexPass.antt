@@ -1,16 +1,29 @@
 -- The pass along the index, turn by turn. Assumes nothing.
-use Rattle.std.proofs.Common.{◌≡◌, ℕ, ◌+◌, ◌<◌, ◌≤◌, true, false, ◌&&◌, leb, ltb, List, [], ◌∷◌, length, drop, get_or, sym, ap, arith, lt-ltb, le-leb}
+use Rattle.std.proofs.Common.{◌≡◌, ℕ, ◌+◌, ◌<◌, ◌≤◌, true, false, ◌&&◌, leb, ltb, List, [], ◌∷◌, length, drop, get_or, Option, Some, None, sym, ap, ◌∙◌, arith, lt-ltb, le-leb}
 use borrow.Author.Tests.{le-ltb, lt-leb}
 use Rattle.std.proofs.Math.ListN.{get_or-map}
 use Rattle.table.specs.declared.TemplateRecord.{TemplateRecord}
-use Rattle.table.specs.Layout.{word}
+use Rattle.std.specs.Borrow.{Bor}
+use Rattle.std.specs.Slice.{IsItemAt}
+use Rattle.table.proofs.Parts.{as_many}
 use Rattle.table.specs.Parts.{template_of, templates_of}
 use Rattle.table.specs.WellFormed.{key_at, index_rises}
 use Rattle.table_passes.specs.Passes.{KeysSmall}
 
--- a record's key is its first word
-pub key_read : (parts : List (List ℕ)) (i : ℕ) → word (get_or parts i []) 0 ≡ key_at (templates_of parts) i
-key_read parts i = sym (ap (λ (r : TemplateRecord). r.key) (get_or-map template_of parts i []))
+-- what `get` answers of the records
+module _ (parts : List (List ℕ)) (i : ℕ) (o : Option (Bor (List ℕ))) (is : IsItemAt parts i o) where
+  pub none_there : o ≡ None → length (templates_of parts) ≤ i
+  none_there e = let past = rw e at is.3 in omega (arith, as_many template_of parts)
+
+  module _ {x : Bor (List ℕ)} (e : o ≡ Some x) where
+    pub known_there : i < length (templates_of parts)
+    known_there = let inside = rw e at is.3 in omega (arith, as_many template_of parts, inside.0)
+
+    pub key_there : {r : TemplateRecord} → r ≡ template_of x.now → r.key ≡ key_at (templates_of parts) i
+    key_there read =
+        let there : x.now ≡ get_or parts i [] = rw e at (is.4 (omega arith) []) in
+        ap (λ (r : TemplateRecord). r.key)
+        (read ∙ ap template_of there ∙ sym (get_or-map template_of parts i []))
 
 -- the first i index words passed; the next key is `low` or more
 pub record IndexPassed (rs : List TemplateRecord) (is : List ℕ) (low i : ℕ) : Type 0 where

@@ -1,6 +1,8 @@
 -- The pass over the records, turn by turn. Assumes nothing.
-use Rattle.std.proofs.Common.{◌≡◌, ℕ, ◌+◌, ◌*◌, ◌^◌, ◌<◌, ◌≤◌, Bool, true, false, ◌&&◌, eqb, ltb, List, [], ◌∷◌, length, drop, get_or, set, refl, sym, ◌∙◌, arith, ltb-true, lt-ltb, eqb-true, leb-true, length-set}
+use Rattle.std.proofs.Common.{◌≡◌, ℕ, ◌+◌, ◌*◌, ◌^◌, ◌<◌, ◌≤◌, Bool, true, false, ◌&&◌, eqb, ltb, List, [], ◌∷◌, length, drop, get_or, set, Option, Some, None, ap, refl, sym, ◌∙◌, arith, ltb-true, lt-ltb, eqb-true, leb-true, length-set}
 use mathlib.Core.Bool.{false≢true}
+use Rattle.std.specs.Borrow.{Bor}
+use Rattle.std.specs.Slice.{IsItemAt}
 use borrow.Author.Tests.{le-ltb}
 use Rattle.config.proofs.Tests.{and_left, and_right}
 use Rattle.table.specs.declared.TemplateRecord.{TemplateRecord}
@@ -58,14 +60,23 @@ module _ {rs : List TemplateRecord} {cap entries : ℕ} {allow₀ allow : List �
     unfolding records_pass
     next_test = rw some at inv.test
 
-    pub large_label : (allow' : List ℕ) → length allow ≤ r.label → Allowed cap entries rs allow₀ allow' false
-    large_label allow' h = record_fails allow' (rw (le-ltb r.label (length allow) h) at next_test)
+    module _ (o : Option (Bor ℕ)) (is : IsItemAt allow r.label o) where
+      pub large_label : (allow' : List ℕ) → o ≡ None → Allowed cap entries rs allow₀ allow' false
+      large_label allow' e = record_fails allow' (rw (le-ltb r.label (length allow) (rw e at is.3)) at next_test)
 
-    module _ (small-label : r.label < length allow) (t : Bool)
-        (told : t ≡ record_fresh cap (get_or allow r.label 0) r) where
+    module _ (o : Option (Bor ℕ)) (is : IsItemAt allow r.label o) {x : Bor ℕ} (found : o ≡ Some x) (t : Bool)
+        (tested : t ≡ record_fresh cap x.now r) where
+      small_label : r.label < length allow
+      small_label = let inside = rw found at is.3 in inside.0
+
+      told : t ≡ record_fresh cap (get_or allow r.label 0) r
+      told =
+          let was : x.now ≡ get_or allow r.label 0 = rw found at (is.4 (omega arith) 0) in
+          tested ∙ ap (λ n. record_fresh cap n r) was
+
       pub not_fresh : (allow' : List ℕ) → t ≡ false → Allowed cap entries rs allow₀ allow' false
       not_fresh allow' e =
-          record_fails allow' (rw (lt-ltb r.label (length allow) small-label, ← told, e) at next_test)
+          record_fails allow' (rw (lt-ltb r.label (length allow) small_label, ← told, e) at next_test)
 
       module _ (holds : t ≡ true) (few : cap ≤ 262144) where
         fresh : Fresh cap (get_or allow r.label 0) r
@@ -76,7 +87,7 @@ module _ {rs : List TemplateRecord} {cap entries : ℕ} {allow₀ allow : List �
         record_passed = let f = fresh in record {
           same_long = length-set allow r.label r.count ∙ inv.same_long;
           sum_small = omega arith;
-          test = rw (lt-ltb r.label (length allow) small-label, ← told, holds) at next_test;
+          test = rw (lt-ltb r.label (length allow) small_label, ← told, holds) at next_test;
           filled = rw some at inv.filled;
         }
 

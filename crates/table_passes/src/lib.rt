@@ -43,11 +43,11 @@ pub fn records_pass(
     let mut sum: u64 = 0;
     for words in records {
         let template = template_of(words);
-        if (allow.len() as u64) <= template.label {
-            return false;
-        }
         let label = template.label as usize;
-        if !record_fresh(template, allow[label], cap) {
+        let Some(was) = allow.get(label) else {
+            return false;
+        };
+        if !record_fresh(template, *was, cap) {
             return false;
         }
         allow[label] = template.count as u32;
@@ -63,11 +63,10 @@ pub fn index_rises(records: &[[u64; RECORD_WORDS]]) -> bool
 {
     let mut low: u64 = 0;
     for words in records {
-        let position = words[INDEX];
-        if (records.len() as u64) <= position {
+        let Some(record) = records.get(words[INDEX] as usize) else {
             return false;
-        }
-        let key = records[position as usize][0];
+        };
+        let key = template_of(record).key;
         if key < low {
             return false;
         }

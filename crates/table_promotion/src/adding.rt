@@ -1,5 +1,5 @@
 // A record more, behind the others, and its position in the index.
-ghost use Rattle.std.specs.Prelude.{◌≡◌, true, ◌+◌, ◌*◌, ◌≤◌, length};
+ghost use Rattle.std.specs.Prelude.{◌≡◌, true, ◌+◌, ◌*◌, ◌≤◌, leb, length};
 ghost use Rattle.config.specs.Limits.{record_words};
 ghost use Rattle.table.specs.Table.{records_from, index_from};
 ghost use Rattle.table.specs.Parts.{templates_of};
@@ -11,13 +11,13 @@ use config::RECORD_WORDS;
 use table::{INDEX, TemplateRecord, records_in, template_of};
 use table_records::put_record;
 
-// The key of the record at a position; of none, 0.
-fn key_at(records: &[[u64; RECORD_WORDS]], position: u64) -> u64
-    ensures { result ≡ key_at (templates_of records.now) position }
+// Whether the record at a position has a key of at most this; with no record there, none is greater.
+fn key_at_most(records: &[[u64; RECORD_WORDS]], position: u64, key: u64) -> bool
+    ensures { result ≡ leb (key_at (templates_of records.now) position) key }
 {
     records
         .get(position as usize)
-        .map_or(0, |words| template_of(words).key)
+        .map_or(true, |words| template_of(words).key <= key)
 }
 
 // Moves the index words of greater keys one place on, from the back, and returns the place that is free then.
@@ -31,7 +31,7 @@ fn open_index(words: &mut [u64], from: usize, records: usize, key: u64) -> usize
         let p = from + RECORD_WORDS * k;
         let position = words[p + INDEX];
         let known = records_in(words, from, records);
-        if key_at(known, position) <= key {
+        if key_at_most(known, position, key) {
             return k + 1;
         }
         words[p + RECORD_WORDS + INDEX] = position;

@@ -2,14 +2,14 @@
 ghost use Rattle.std.specs.Prelude.{◌≡◌, ◌+◌, ◌*◌, ◌≤◌, ◌<◌, length, get_or};
 ghost use Rattle.config.specs.Limits.{record_words};
 ghost use Rattle.table.specs.Parts.{templates_of};
-ghost use Rattle.table_records.specs.Close.{nowhere};
+ghost use Rattle.table_records.specs.Close.{nowhere, position_told};
 ghost use Rattle.table_records.specs.Take.{found_place, positions_but, TakesOff};
 ghost use Rattle.table_promotion.specs.Taking.{TakesLabel};
 ghost use Rattle.table_records.specs.Passes.{MovesUp};
 
 use config::RECORD_WORDS;
 use table::{record_at, records_in, template_of};
-use table_records::{NOWHERE, capped_count, close_index, put_record};
+use table_records::{capped_count, close_index, position_told, put_record};
 
 // The place of the first record with this label.
 pub fn place_of(records: &[[u64; RECORD_WORDS]], label: u64) -> Option<usize>
@@ -35,20 +35,20 @@ fn move_up(words: &mut [u64], from: usize, records: usize, at: usize)
 }
 
 // The new position of a record, where the one at a place goes.
-fn position_but(at: usize, records: usize, position: u64) -> u64
+fn position_but(at: usize, records: usize, position: u64) -> Option<u64>
     requires { at < records }
-    ensures { result ≡ get_or (positions_but 0 at records) position nowhere }
+    ensures { result ≡ position_told (get_or (positions_but 0 at records) position nowhere) }
 {
     if (records as u64) <= position {
-        return NOWHERE;
+        return None;
     }
     if position < (at as u64) {
-        return position;
+        return position_told(position);
     }
     if (at as u64) < position {
-        return position - 1;
+        return position_told(position - 1);
     }
-    NOWHERE
+    None
 }
 
 // Takes the record at a place off, and returns how many bodies it counted.

@@ -39,39 +39,39 @@ pub beyond_cap : (cap label count over : ℕ) (counts : List ℕ) → count ≡ 
 beyond_cap cap label count over counts counted less = rw counted at less
 
 -- the first i go, and then those of the ones that are left
-pub record Evicted (room : ℕ) (sizes : List ℕ) (total : ℕ) (parts : List (List ℕ)) (held gone i : ℕ) : Type 0 where
-  pub all_gone : gone ≡ i
+pub record Evicted (room : ℕ) (sizes : List ℕ) (total : ℕ) (parts : List (List ℕ)) (held i : ℕ) : Type 0 where
   pub rest_go : evictions_of room sizes total (templates_of parts)
       ≡ i + evictions_of room sizes held (drop i (templates_of parts))
 
 pub none_evicted : (room : ℕ) (sizes : List ℕ) (total : ℕ) (parts : List (List ℕ)) →
-    Evicted room sizes total parts total 0 0
-none_evicted room sizes total parts = record { all_gone = refl; rest_go = omega arith }
+    Evicted room sizes total parts total 0
+none_evicted room sizes total parts = record { rest_go = omega arith }
 
-module _ {room : ℕ} {sizes : List ℕ} {total : ℕ} {parts : List (List ℕ)} {held gone i : ℕ}
-    (inv : Evicted room sizes total parts held gone i) where
-  pub all_evicted : length parts ≤ i → gone ≡ evictions_of room sizes total (templates_of parts)
+module _ {room : ℕ} {sizes : List ℕ} {total : ℕ} {parts : List (List ℕ)} {held i : ℕ}
+    (inv : Evicted room sizes total parts held i) where
+  pub all_evicted : length parts ≡ i → length parts ≡ evictions_of room sizes total (templates_of parts)
   unfolding evictions_of
   all_evicted h =
-      let z : evictions_of room sizes held (drop i (templates_of parts)) ≡ 0 = rw (no_part template_of parts i h) in
-      omega (arith, inv.rest_go, inv.all_gone)
+      let z : evictions_of room sizes held (drop i (templates_of parts)) ≡ 0 =
+      rw (no_part template_of parts i (omega (arith, h))) in
+      omega (arith, inv.rest_go)
 
-  pub room_made : i < length parts → held ≤ room → gone ≡ evictions_of room sizes total (templates_of parts)
+  pub room_made : i < length parts → held ≤ room → i ≡ evictions_of room sizes total (templates_of parts)
   unfolding evictions_of
   room_made more h =
       let z : evictions_of room sizes held (drop i (templates_of parts)) ≡ 0 =
       rw (part_first template_of parts i (template_of (get_or parts i [])) more refl, le-ltb room held h) in
-      omega (arith, inv.rest_go, inv.all_gone)
+      omega (arith, inv.rest_go)
 
   pub record_evicted : (r : TemplateRecord) (size held' : ℕ) → i < length parts → room < held →
       r ≡ template_of (get_or parts i []) → size ≡ get_or sizes r.label 0 → held' ≡ held - size →
-      Evicted room sizes total parts held' (gone + 1) (i + 1)
+      Evicted room sizes total parts held' (i + 1)
   unfolding evictions_of
   record_evicted r size held' more h is sized less =
       let next : evictions_of room sizes held (drop i (templates_of parts))
       ≡ suc (evictions_of room sizes held' (drop (i + 1) (templates_of parts))) =
       rw (part_first template_of parts i r more is, lt-ltb room held h, less, sized) in
-      record { all_gone = omega (arith, inv.all_gone); rest_go = omega (arith, inv.rest_go) }
+      record { rest_go = omega (arith, inv.rest_go) }
 
 -- as many as are left of the records where those with no live bodies are left out
 live_filtered : (live : List ℕ) (rs : List TemplateRecord) →

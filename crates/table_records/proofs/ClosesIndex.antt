@@ -1,17 +1,20 @@
 -- The pass that moves the index words of the records that remain together, turn by turn. Assumes nothing.
 use mathlib.Core.Path.{◌≡◌, refl, sym, ap, ◌∙◌}
+use Rattle.std.specs.Prelude.{Option, Some, None}
+use mathlib.Core.Bool.{Bool, true, false, cond}
 use mathlib.Core.List.{List, ◌∷◌, ◌++◌, append_assoc, append-nil}
 use Prim.Native.Nat.{ℕ, ◌+◌, ◌*◌, ◌-◌, ◌≤◌, ◌<◌}
 use native.Mathlib.Omega.{arith}
 use native.Mathlib.Decide.{ℕ_discrete}
+use lib.Dec.{ltb}
 use lib.ListN.{length, get_or, set, take, drop, length-set}
 use lib.Seq.{take-set-le, drop-set-lt}
-use borrow.Author.Tests.{lt-ltb, le-ltb}
+use borrow.Author.Tests.{lt-ltb, le-ltb, ltb-true, ltb-false}
 use Rattle.config.specs.Limits.{record_words}
 use Rattle.table.specs.Layout.{word}
 use Rattle.table.specs.Table.{records_from, index_from}
 use Rattle.table.proofs.Words.{index_first, index_none, length_index}
-use Rattle.table_records.specs.Close.{nowhere, remapped}
+use Rattle.table_records.specs.Close.{nowhere, position_told, remapped}
 use Rattle.table_records.specs.Passes.{ClosesIndex}
 use Rattle.table_records.proofs.Frames.{word_other, word_same, records_same, index_same, index_one_more}
 
@@ -23,6 +26,21 @@ below_stored w i a most room few below j = by_place (ℕ_discrete j i)
     by_place : Dec (j ≡ i) → word (set w i a) j < most
     by_place (yes e) = rw (e, word_same w i a room) few
     by_place (no d) = rw (word_other w i j a d) (below j)
+
+-- a number that tells a position is that position, and one that tells none is past the last
+pub told_some : (n i : ℕ) {moved : Option ℕ} → moved ≡ position_told n → moved ≡ Some i → (i ≡ n) × (i < nowhere)
+told_some n i told some = by_test (ltb n nowhere) refl (sym some ∙ told)
+  where
+    by_test : (t : Bool) → ltb n nowhere ≡ t → Some i ≡ cond t (Some n) None → (i ≡ n) × (i < nowhere)
+    by_test true e h = let same : i ≡ n = cc in (same, omega (arith, same, ltb-true n nowhere e))
+    by_test false e h = absurd cc
+
+pub told_none : (n : ℕ) {moved : Option ℕ} → moved ≡ position_told n → moved ≡ None → nowhere ≤ n
+told_none n told none = by_test (ltb n nowhere) refl (sym none ∙ told)
+  where
+    by_test : (t : Bool) → ltb n nowhere ≡ t → None ≡ cond t (Some n) None → nowhere ≤ n
+    by_test true e h = absurd cc
+    by_test false e h = ltb-false n nowhere e
 
 -- `remain` index words remain of those passed, and `left` index words are left, from word p on
 pub record Remapping (from records : ℕ) (ps w₀ w : List ℕ) (remain left p : ℕ) : Type 0 where

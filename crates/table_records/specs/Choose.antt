@@ -6,7 +6,7 @@ use Rattle.table.specs.declared.TemplateRecord.{TemplateRecord}
 use Rattle.table.specs.Table.{has_label}
 use Rattle.table.specs.Reads.{label_or_none}
 
--- more than any template has
+-- as many bodies as any template can have
 abbrev pub skip_all : ℕ
 skip_all = 262144
 
@@ -40,11 +40,6 @@ label_of_first_live live rs = find (λ label. ltb 0 (get_or live label 0)) (map 
 -- the same with what is no label where there is none
 abbrev pub first_live : List ℕ → List TemplateRecord → ℕ
 first_live live rs = label_or_none (label_of_first_live live rs)
-
--- the least label, from k on, that has 0; n labels are looked at
-unfoldable pub least_free : List ℕ → ℕ → ℕ → ℕ
-least_free used k zero = k
-least_free used k (suc n) = cond (eqb (get_or used k 0) 0) k (least_free used (k + 1) n)
 
 -- the greatest label of these records; 0 where there is none
 abbrev pub greatest_label : List TemplateRecord → ℕ

@@ -1,4 +1,5 @@
 -- Closing: records whose label has no bodies left go, the others have their counts anew, and the index follows.
+use Rattle.std.specs.Prelude.{Option, Some, None}
 use Rattle.std.specs.Prelude.{◌≡◌, List, [], ◌∷◌, Bool, cond, ℕ, ◌+◌, ◌*◌, ◌≤◌, ltb, length, get_or, set, take, drop}
 use Rattle.config.specs.Limits.{record_words}
 use Rattle.table.specs.declared.TemplateRecord.{TemplateRecord}
@@ -23,6 +24,10 @@ closed kept (r ∷ rs) = cond (remains kept r) (recounted kept r ∷ closed kept
 -- no position: what stands for the new position of a record that goes
 abbrev pub nowhere : ℕ
 nowhere = 1024
+
+-- the position that such a number tells, if it is one
+abbrev pub position_told : ℕ → Option ℕ
+position_told n = cond (ltb n nowhere) (Some n) None
 
 -- the new position of each record, counted from `at` on
 unfoldable pub positions : List ℕ → ℕ → List TemplateRecord → List ℕ

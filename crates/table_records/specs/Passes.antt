@@ -1,10 +1,11 @@
 -- What the passes of `close`, `take_off` and `add_record` do, each as its loop goes. They stand here because the
 -- contracts of the passes cite them. A reader need not believe them: together they are `Closes`, `TakesOff` and `Adds`.
+use Rattle.std.specs.Prelude.{Option}
 use Rattle.std.specs.Prelude.{◌≡◌, List, ◌∷◌, ◌++◌, ℕ, ◌+◌, ◌*◌, ◌-◌, ◌^◌, ◌≤◌, ◌<◌, length, get_or, take, drop}
 use Rattle.config.specs.Limits.{record_words}
 use Rattle.table.specs.Layout.{word}
 use Rattle.table.specs.Table.{records_from, index_from}
-use Rattle.table_records.specs.Close.{closed, nowhere, positions, remapped}
+use Rattle.table_records.specs.Close.{closed, nowhere, position_told, positions, remapped}
 use Rattle.table_records.specs.Add.{inserted}
 
 -- k records from word p on are closed, r of them remain, and the first k of `ps` are the new positions; index words
@@ -17,9 +18,10 @@ pub record ClosesRecords (p k : ℕ) (kept w w' ps : List ℕ) (r : ℕ) : Type 
   pub head : take p w' ≡ take p w
   pub tail : drop (p + record_words * k) w' ≡ drop (p + record_words * k) w
 
--- at each position of 64 bits, what is answered is its new position
-abbrev pub TellsPositions : (ℕ → ℕ → Type 0) → List ℕ → Type 0
-TellsPositions answers ps = (i n : ℕ) → i < 2 ^ 64 → answers i n → n ≡ get_or ps i nowhere
+-- at each position of 64 bits, what is answered is its new position, if it has one
+abbrev pub TellsPositions : (ℕ → Option ℕ → Type 0) → List ℕ → Type 0
+TellsPositions answers ps = (i : ℕ) (moved : Option ℕ) → i < 2 ^ 64 → answers i moved →
+    moved ≡ position_told (get_or ps i nowhere)
 
 -- the index of k records from word p on follows the new positions; records do not change
 pub record ClosesIndex (p k : ℕ) (ps w w' : List ℕ) : Type 0 where

@@ -1,20 +1,21 @@
 // What is chosen by looking at the records alone, with sums by label beside them.
-ghost use Rattle.std.specs.Prelude.{◌≡◌, ◌-◌, ◌≤◌, ◌<◌, length};
+ghost use Rattle.std.specs.Prelude.{◌≡◌, ◌-◌, ◌<◌, eqb, length};
+ghost use Rattle.std.specs.List.{position};
 ghost use Rattle.table.specs.Parts.{templates_of};
 ghost use Rattle.table_records.specs.Choose.{skipping, skipping_over, evictions_of, live_records, label_of_first_live};
-ghost use Rattle.table_records.specs.Choose.{least_free, greatest_label, last_label, RoomForLabels};
+ghost use Rattle.table_records.specs.Choose.{greatest_label, last_label, RoomForLabels};
 ghost use Rattle.table_records.specs.Choose.{FreeLabel};
 
 use super::sums::{set_sum, sum_of};
-use config::RECORD_WORDS;
+use config::{MAX_BODIES, RECORD_WORDS};
 use table::{FEW_LABELS, LABELS, template_of};
 
-// More than any template has.
-const SKIP_ALL: u32 = 262144;
+// As many bodies as any template can have.
+pub const SKIP_ALL: u32 = MAX_BODIES as u32;
 
-const LAST_LABEL: u64 = 1023;
+const LAST_LABEL: u64 = LABELS as u64 - 1;
 
-const LAST_OF_FEW: u64 = 31;
+const LAST_OF_FEW: u64 = FEW_LABELS as u64 - 1;
 
 // Has all bodies of the records skipped; a label past the end of the slice is left out.
 #[tactic(auto, using(crate::proofs::Chosen::setting))]
@@ -54,16 +55,14 @@ pub fn evictions_of(
     ensures { result ≡ evictions_of room sizes.now total (templates_of records.now) }
 {
     let mut held = total;
-    let mut evicted: usize = 0;
-    for words in records {
+    for (evicted, words) in records.iter().enumerate() {
         if held <= room {
             return evicted;
         }
         let label = template_of(words).label;
         held = held.saturating_sub(sum_of(sizes, label) as u64);
-        evicted += 1;
     }
-    evicted
+    records.len()
 }
 
 // How many of the records have live bodies.
@@ -87,14 +86,14 @@ pub fn first_live(records: &[[u64; RECORD_WORDS]], live: &[u32; LABELS]) -> Opti
         .find(|label| 0 < sum_of(live, *label))
 }
 
-// The least label that has 0; where there is none, the length of `used`.
-fn least_free(used: &[u32]) -> u64
-    ensures { result ≡ least_free used.now 0 (length used.now) }
+// The first label that has 0.
+fn first_free(used: &[u32]) -> Option<usize>
+    ensures { result ≡ position (λ sum. eqb sum 0) used.now }
 {
-    used.iter().position(|sum| *sum == 0).unwrap_or(used.len()) as u64
+    used.iter().position(|sum| *sum == 0)
 }
 
-// The greatest label of the records; 0 where there is none.
+// The greatest label of the records, or 0: with no record, any label is free.
 fn greatest_label(records: &[[u64; RECORD_WORDS]]) -> u64
     ensures { result ≡ greatest_label (templates_of records.now) }
 {
@@ -122,7 +121,10 @@ fn least_unused(records: &[[u64; RECORD_WORDS]], used: &mut [u32]) -> u64
     ensures { FreeLabel (templates_of records.now) result }
 {
     skip_records(records, used);
-    least_free(used)
+    let Some(label) = first_free(used) else {
+        unreachable!()
+    };
+    label as u64
 }
 
 // A label that no record has: the one behind the greatest, up to the last that is taken so, or else the least.

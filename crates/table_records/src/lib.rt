@@ -7,8 +7,10 @@ mod keeping;
 mod storing;
 mod sums;
 
-pub use choosing::{evictions_of, first_live, free_label, live_records, skip_over, skip_records};
-pub use index::{NOWHERE, close_index};
+pub use choosing::{
+    SKIP_ALL, evictions_of, first_live, free_label, live_records, skip_over, skip_records,
+};
+pub use index::{NOWHERE, close_index, position_told};
 pub use keeping::count_whole;
 pub use storing::put_record;
 pub use sums::{capped_count, set_sum, sum_of};

@@ -6,7 +6,7 @@ ghost use Rattle.table_records.specs.Close.{put_record};
 use table::TemplateRecord;
 
 // Stores a record's three words from p on.
-// The words and a place, no parts: `as_chunks_mut` says nothing of what the words end as.
+// By a place: a part of so many words (`first_chunk_mut`) is an Option, which every caller would have to open.
 pub fn put_record(words: &mut [u64], p: usize, template: TemplateRecord)
     requires { p + record_words ≤ length words.old }
     ensures { words.new ≡ put_record words.old p template }

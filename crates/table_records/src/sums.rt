@@ -11,6 +11,7 @@ pub fn sum_of(sums: &[u32], label: u64) -> u32
 }
 
 // Stores what a label has; past the end, nothing.
+// A test of the length: of `get_mut` std does not say what the slice ends as.
 #[tactic(auto, using(crate::proofs::PastEnd::set_past_end))]
 pub fn set_sum(sums: &mut [u32], label: u64, sum: u32)
     ensures { sums.new ≡ set sums.old label sum }

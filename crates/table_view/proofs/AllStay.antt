@@ -1,7 +1,7 @@
 -- Where every entry stays: the sweep keeps them all. Assumes nothing.
 use Rattle.std.proofs.Common.{Option, None}
 use mathlib.Core.Path.{◌≡◌, refl}
-use mathlib.Core.Bool.{Bool, true, false, not, ◌&&◌, ◌||◌, cond, and-false}
+use mathlib.Core.Bool.{Bool, true, false, not, ◌&&◌, cond, and-false}
 use mathlib.Core.List.{List, [], ◌∷◌}
 use Prim.Native.Nat.{ℕ, suc, ◌+◌, ◌≤◌, ◌<◌}
 use native.Mathlib.Omega.{arith}
@@ -15,7 +15,7 @@ use Rattle.table.specs.declared.TemplateRecord.{TemplateRecord}
 use Rattle.table.specs.Table.{tally}
 use Rattle.table.specs.Reads.{live_count}
 use Rattle.table_entries.specs.declared.StayTest.{StayTest}
-use Rattle.table_entries.specs.Stays.{stays}
+use Rattle.table_entries.specs.Stays.{is_aged, stays}
 use Rattle.table_entries.specs.Sweep.{swept}
 use Rattle.table_entries.proofs.LabelSums.{zeros}
 use Rattle.table_entries.proofs.Swept.{swept_all}
@@ -69,14 +69,14 @@ module _ (ttl : Option ℕ) (clock k : ℕ) where
 -- ---- the sweep
 
 -- every entry stays that is not of the label and expired, nor too large
-pub all_stay : (q : StayTest) (es : List Entry) → q.all ≡ false →
-    All (λ e. eqb q.label e.label && expired_at q.ttl q.clock e.clock ≡ false) es →
+pub all_stay : (q : StayTest) (es : List Entry) →
+    All (λ e. is_aged q.only e.label && expired_at q.ttl q.clock e.clock ≡ false) es →
     All (λ e. e.len ≤ q.max_size) es → All (λ e. stays q e ≡ true) es
 unfolding stays
-all_stay q es one fresh short =
-    all_both (λ e. eqb q.label e.label && expired_at q.ttl q.clock e.clock ≡ false)
+all_stay q es fresh short =
+    all_both (λ e. is_aged q.only e.label && expired_at q.ttl q.clock e.clock ≡ false)
     (λ e. e.len ≤ q.max_size) (λ e. stays q e ≡ true)
-    (λ e x y. rw (one, x) (le-leb e.len q.max_size y)) es fresh short
+    (λ e x y. rw x (le-leb e.len q.max_size y)) es fresh short
 
 -- with no time to live, every entry that is not too large
 pub unaged_stay : (q : StayTest) (es : List Entry) → q.ttl ≡ None → All (λ e. e.len ≤ q.max_size) es →
@@ -84,7 +84,7 @@ pub unaged_stay : (q : StayTest) (es : List Entry) → q.ttl ≡ None → All (�
 unfolding stays
 unaged_stay q es none short =
     all_map (λ e. e.len ≤ q.max_size) (λ e. stays q e ≡ true)
-    (λ e h. rw (none, and-false (q.all || eqb q.label e.label)) (le-leb e.len q.max_size h)) es short
+    (λ e h. rw (none, and-false (is_aged q.only e.label)) (le-leb e.len q.max_size h)) es short
 
 -- nothing is skipped
 pub none_skipped : (q : StayTest) (es : List Entry) → All (λ e. e.label < 1024) es → All (λ e. stays q e ≡ true) es →

@@ -1,5 +1,5 @@
 -- The sums by label over the entries that stay by themselves, as sums over the bodies of the label. Assumes nothing.
-use Rattle.std.proofs.Common.{None}
+use Rattle.std.proofs.Common.{Some, None}
 use mathlib.Core.Path.{◌≡◌, refl, sym, ◌∙◌}
 use mathlib.Core.Bool.{Bool, true, false, ◌&&◌, cond, and-false}
 use mathlib.Core.List.{List, [], ◌∷◌}
@@ -66,7 +66,7 @@ len_most = 18446744073709551615
 
 -- the test that every body passes
 abbrev pub everything : StayTest
-everything = record { ttl = None; clock = 0; all = false; label = 1024; max_size = len_most }
+everything = record { ttl = None; clock = 0; only = Some 1024; max_size = len_most }
 
 everything_passes : (k : ℕ) (x : Body) → size x ≤ len_most → body_stays everything k x ≡ true
 unfolding body_stays

@@ -1,6 +1,6 @@
 -- The bodies that a sweep of the entries leaves of each label. Assumes nothing.
 use mathlib.Core.Path.{◌≡◌, refl, sym, ap, ◌∙◌}
-use mathlib.Core.Bool.{Bool, true, false, not, ◌&&◌, ◌||◌, cond}
+use mathlib.Core.Bool.{Bool, true, false, not, ◌&&◌, cond}
 use mathlib.Core.List.{List, [], ◌∷◌}
 use Prim.Native.Nat.{ℕ, zero, suc, ◌+◌, ◌-◌, ◌≤◌, ◌<◌}
 use native.Mathlib.Omega.{arith}
@@ -14,7 +14,7 @@ use Rattle.table.specs.Table.{tally}
 use Rattle.table.specs.Passes.{less_at}
 use Rattle.table.proofs.Facts.{Placed}
 use Rattle.table_entries.specs.declared.StayTest.{StayTest}
-use Rattle.table_entries.specs.Stays.{stays}
+use Rattle.table_entries.specs.Stays.{is_aged, stays}
 use Rattle.table_entries.specs.Sweep.{swept}
 use Rattle.cache_model.specs.Bodies.{Body, size, expired, keep}
 use Rattle.pending_flows.specs.View.{body_at, bodies_at}
@@ -23,7 +23,7 @@ use Rattle.pending_flows.proofs.Templates.{length_bodies}
 -- whether a body of a label stays by itself
 unfoldable pub body_stays : StayTest → ℕ → Body → Bool
 body_stays q k x =
-    not ((q.all || eqb q.label k) && expired q.ttl q.clock x) && leb (size x) q.max_size
+    not (is_aged q.only k && expired q.ttl q.clock x) && leb (size x) q.max_size
 
 -- bodies end within `most` bytes
 abbrev pub Within : ℕ → List Entry → Type 0

@@ -1,14 +1,12 @@
 -- What is watched while the entries are tested, and what was seen of it at the end.
 use Rattle.std.specs.Prelude.{Option, Some, None, Result, Ok, Err}
 use Rattle.table.specs.declared.Damaged.{Damaged}
-use Rattle.std.specs.Prelude.{List, [], ◌∷◌, Bool, ◌&&◌, cond, ℕ, ◌+◌, ◌-◌, eqb, leb, ltb, length}
-use Rattle.std.specs.List.{slice_get}
+use Rattle.std.specs.Prelude.{List, [], ◌∷◌, Bool, ◌&&◌, cond, ℕ, ◌+◌, ◌-◌, eqb, leb}
 use Rattle.table.specs.declared.Entry.{Entry}
 use Rattle.table.specs.declared.TemplateRecord.{TemplateRecord}
 use Rattle.table_watch.specs.declared.Sought.{Sought}
 use Rattle.table_watch.specs.declared.LabelSeen.{LabelSeen}
 use Rattle.table_watch.specs.declared.Watch.{Watch}
-use Rattle.table_watch.specs.declared.Passed.{Passed}
 use Rattle.table.specs.Table.{Table}
 use Rattle.table.specs.Passes.{first_label}
 use Rattle.table.specs.Reads.{label_of, label_or_none}
@@ -55,13 +53,10 @@ seen_by v es = record { live = count_watched v es; found = nth_watched v v.nth e
 unfoldable pub judged : Bool → LabelSeen → Result LabelSeen Damaged
 judged legal seen = cond legal (Ok seen) (Err (record {}))
 
--- As the loop goes: an entry is passed with `left` left, and what was passed is read at the end.
-unfoldable pub kept_of : ℕ → ℕ → ℕ → ℕ → ℕ
-kept_of live nth kept left = cond (eqb live nth) left kept
+-- As the loop goes: what is seen with one more entry.
+unfoldable pub kept_of : ℕ → ℕ → Option Entry → Entry → Option Entry
+kept_of live nth kept e = cond (eqb live nth) (Some e) kept
 
-unfoldable pub passed_more : Watch → Entry → ℕ → Passed → Passed
-passed_more v e left c =
-    cond (is_watched v e) (record { live = c.live + 1; left = kept_of c.live v.nth c.left left }) c
-
-unfoldable pub label_seen : List Entry → ℕ → Passed → LabelSeen
-label_seen es nth c = record { live = c.live; found = cond (ltb nth c.live) (slice_get es (length es - c.left)) None }
+unfoldable pub passed_more : Watch → Entry → LabelSeen → LabelSeen
+passed_more v e c =
+    cond (is_watched v e) (record { live = c.live + 1; found = kept_of c.live v.nth c.found e }) c

@@ -1,9 +1,9 @@
 // What is watched while the entries are tested: those of one label that are not too old are counted, and one is kept.
 #![tactic(auto)]
 
-ghost use Rattle.std.specs.Prelude.{◌≡◌, ◌+◌, ◌^◌, ◌≤◌, ◌<◌, length};
-ghost use Rattle.table.specs.Parts.{entry_of, entries_of, templates_of};
-ghost use Rattle.table_watch.specs.Watch.{live_watch, watch_for, kept_of, passed_more, label_seen};
+ghost use Rattle.std.specs.Prelude.{◌≡◌, ◌+◌, ◌^◌, ◌<◌};
+ghost use Rattle.table.specs.Parts.{entry_of, templates_of};
+ghost use Rattle.table_watch.specs.Watch.{live_watch, watch_for, kept_of, passed_more};
 
 use config::{ENTRY_WORDS, RECORD_WORDS};
 use table::{Entry, LABELS, entry_of, label_number, label_of};
@@ -26,7 +26,8 @@ pub struct LabelSeen {
 }
 
 // The entries that are watched: those of a label with a clock reading of `oldest` or later. The one with `nth` of them
-// before it is kept.
+// before it is kept. The label is a number also where none is watched, since the pass over the entries compares it with
+// each entry's: an Option would be two comparisons.
 #[derive(Clone, Copy)]
 pub struct Watch {
     pub label: u64,
@@ -34,19 +35,12 @@ pub struct Watch {
     pub nth: usize,
 }
 
-// The watch for no entry: what is watched for is no label.
+// The watch for no entry: its label is a number that no entry has.
 const NOTHING: Watch = Watch {
     label: LABELS as u64,
     oldest: 0,
     nth: 0,
 };
-
-// How many watched entries were passed, and how many entries were left at the one that is kept.
-#[derive(Clone, Copy)]
-pub struct Passed {
-    pub live: usize,
-    pub left: usize,
-}
 
 // The watch for the entries of a label that are not expired at a clock reading. With a TTL of 0 all are, and what is
 // watched for is no label.
@@ -54,26 +48,14 @@ pub struct Passed {
 fn live_watch(label: u64, ttl: Option<u64>, clock: u64) -> Watch
     ensures { result ≡ live_watch label ttl clock }
 {
-    let Some(limit) = ttl else {
-        return Watch {
-            label,
-            oldest: 0,
-            nth: 0,
-        };
+    let oldest = match ttl {
+        None => 0,
+        Some(0) => return NOTHING,
+        Some(limit) => clock.saturating_sub(limit - 1),
     };
-    if limit == 0 {
-        return NOTHING;
-    }
-    if clock < limit {
-        return Watch {
-            label,
-            oldest: 0,
-            nth: 0,
-        };
-    }
     Watch {
         label,
-        oldest: clock - (limit - 1),
+        oldest,
         nth: 0,
     }
 }
@@ -97,57 +79,32 @@ pub fn watch_for(held: &[[u64; RECORD_WORDS]], ttl: Option<u64>, out: u64, sough
     }
 }
 
-// How many entries were left at the kept one, when one is passed behind `live` watched ones with `left` left.
+// The entry that is kept, when this one is passed behind `live` watched ones.
 #[tactic(auto, unfolding(crate::specs::Watch::kept_of))]
-fn kept_of(live: usize, nth: usize, kept: usize, left: usize) -> usize
-    ensures { result ≡ kept_of live nth kept left }
+fn kept_of(live: usize, nth: usize, kept: Option<Entry>, entry: Entry) -> Option<Entry>
+    ensures { result ≡ kept_of live nth kept entry }
 {
-    if live == nth { left } else { kept }
+    if live == nth { Some(entry) } else { kept }
 }
 
-// What was passed, with the entry that the words are, at which `left` are left. Its clock reading is read anew, so that
-// this is done only where the label is watched.
+// What is seen with the entry that the words are. Its clock reading is read anew, so that this is done only where the
+// label is watched.
 #[tactic(auto, unfolding(crate::specs::Watch::passed_more))]
 pub fn pass_entry(
     words: &[u64; ENTRY_WORDS],
     entry: Entry,
-    left: usize,
-    passed: Passed,
+    seen: LabelSeen,
     watch: Watch,
-) -> Passed
+) -> LabelSeen
     requires entry_read { entry ≡ entry_of words.now }
-    requires live_bound { passed.live + 1 < 2 ^ 64 }
-    ensures { result ≡ passed_more watch entry left passed }
+    requires live_bound { seen.live + 1 < 2 ^ 64 }
+    ensures { result ≡ passed_more watch entry seen }
 {
-    if watch.label != entry.label {
-        return passed;
-    }
-    if entry_of(words).clock < watch.oldest {
-        return passed;
-    }
-    let kept = kept_of(passed.live, watch.nth, passed.left, left);
-    Passed {
-        live: passed.live + 1,
-        left: kept,
-    }
-}
-
-// How many watched entries were passed, and the one that is kept.
-#[tactic(auto, unfolding(crate::specs::Watch::label_seen))]
-pub fn label_seen(entries: &[[u64; ENTRY_WORDS]], passed: Passed, nth: usize) -> LabelSeen
-    requires left_nonzero { nth < passed.live → (0 < passed.left) × (passed.left ≤ length entries.now) }
-    ensures { result ≡ label_seen (entries_of entries.now) nth passed }
-{
-    if nth < passed.live {
-        let i = entries.len() - passed.left;
-        let found = Some(entry_of(&entries[i]));
-        return LabelSeen {
-            live: passed.live,
-            found,
-        };
+    if watch.label != entry.label || entry_of(words).clock < watch.oldest {
+        return seen;
     }
     LabelSeen {
-        live: passed.live,
-        found: None,
+        live: seen.live + 1,
+        found: kept_of(seen.live, watch.nth, seen.found, entry_of(words)),
     }
 }

@@ -93,7 +93,7 @@ module _ (w : List ℕ) (n : ℕ) (ok : well_formed w n ≡ true) (label apart :
   pub swept_is : swept everything skip es ≡ stay
   swept_is =
       label_swept label everything skip_all es
-      (all_stay everything es refl
+      (all_stay everything es
       (all_of (λ e. eqb 1024 e.label && expired_at everything.ttl 0 e.clock ≡ false) es
       (λ e. and-false (eqb 1024 e.label)))
       (entries_short w n ok))

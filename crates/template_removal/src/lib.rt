@@ -1,10 +1,11 @@
 // Removing one template whole, or its expired bodies, without an array (pending_flows.rs).
+// Both areas are given, also where the words alone are read: what is asked is that the two hold a cache.
 #![tactic(auto)]
 
 mod expired;
 mod packing;
 
-ghost use Rattle.std.specs.Prelude.{◌≡◌, ◌+◌, ◌*◌, ◌≤◌, length, set, replicate};
+ghost use Rattle.std.specs.Prelude.{◌+◌, ◌*◌, ◌≤◌, length, set, replicate};
 ghost use Rattle.config.specs.Limits.{record_words};
 ghost use Rattle.table.specs.Reads.{label_or_none};
 ghost use Rattle.table_records.specs.Choose.{skip_all};

@@ -1,18 +1,14 @@
 use borrow.Author.Rules.{rules}
 use Rattle.pending_flows.proofs.Questions.{bodies_few}
 use Rattle.pending_calls.proofs.NoneRemoved.{records_few, records_fit, entries_below, records_inside}
-use Rattle.planned_removal.proofs.PlannedRemoval.{planned_long, removed_planned, planned_whole, whole_planned}
+use Rattle.planned_removal.proofs.PlannedRemoval.{planned_whole, whole_planned}
 use Rattle.planned_removal.proofs.remove_skipped.Goals as goal
 
-pub remove_whole-requires : goal.remove_whole-requires
-remove_whole-requires c = record {
-  header_value = search rules;
-  skip_value = search (planned_whole, rules);
-  live_value = search rules;
-}
+pub remove_whole-requires-clause-skip_value : goal.remove_whole-requires-clause-skip_value
+remove_whole-requires-clause-skip_value c = search (planned_whole, rules)
 
 pub returns-then-plan : goal.returns-then-plan
-returns-then-plan c = whole_planned _ _ c.requires.header_value.legal _ _ _ c.requires.none_expired c.if-plan.true
+returns-then-plan c = whole_planned _ _ c.requires.holds.legal _ _ _ c.requires.none_expired c.if-plan.true
     c.skip_planned.ensures (rw c.stay_all.ensures at c.remove_whole.ensures)
 
 pub overflow_add-records : goal.overflow_add-records
@@ -23,9 +19,7 @@ records_at-requires c = search (bodies_few, rules)
 
 pub remove-requires : goal.remove-requires
 remove-requires c = record {
-  entries_bound = (search (entries_below, rules), search (records_inside, rules));
-  records_bound = (search (records_few, rules), search (planned_long, rules));
+  entries_below = search (entries_below, rules);
+  records_within = search (records_inside, rules);
+  records_few = search (records_few, rules);
 }
-
-pub returns : goal.returns
-returns c = search (removed_planned, rules)

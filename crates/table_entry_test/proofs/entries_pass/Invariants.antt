@@ -3,9 +3,9 @@ use Rattle.table_entry_test.proofs.EntriesPass.{EntriesPassed}
 use Rattle.table_watch.proofs.Watched.{Watched}
 use Rattle.table_entry_test.proofs.entries_pass.Given as goal
 
-abbrev pub invariant-loop-i : goal.invariant-loop-i
-invariant-loop-i l = record {
-  passed : EntriesPassed (entries_of l.entries) l.max_size l.max_total l.out l.total l.initial.allow l.allow l.end
-      l.held l.i;
-  watched : Watched (entries_of l.entries) l.watch l.passed l.i;
+abbrev pub invariant-loop-words : goal.invariant-loop-words
+invariant-loop-words l = record {
+  passed : EntriesPassed (entries_of l.entries) l.limits.max_entry_size_bytes l.limits.max_total_bytes l.out l.total l.initial.allow l.allow l.end
+      l.held l.words-index;
+  watched : Watched (entries_of l.entries) l.watch l.seen l.words-index;
 }

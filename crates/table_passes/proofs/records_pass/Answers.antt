@@ -8,17 +8,17 @@ use Rattle.table_passes.proofs.records_pass.Goals as goal
 pub loop-words-init : goal.loop-words-init
 loop-words-init c = search (no_record_passed, rules)
 
-pub returns-then-allow-template : goal.returns-then-allow-template
-returns-then-allow-template c =
+pub returns-in_default : goal.returns-in_default
+returns-in_default c =
     let some = part_first template_of c.args.records.now c.loop-words.words-index _ c.loop-words-test.true
     c.template_of-template.ensures in
-    large_label c.loop-words.invariant _ some _ c.if-allow-template.true
+    large_label c.loop-words.invariant _ some _ c.get.ensures.lookup _ (search rules)
 
 pub returns-then-not-record_fresh : goal.returns-then-not-record_fresh
 returns-then-not-record_fresh c =
     let some = part_first template_of c.args.records.now c.loop-words.words-index _ c.loop-words-test.true
     c.template_of-template.ensures in
-    not_fresh c.loop-words.invariant _ some c.if-allow-template.false _ c.record_fresh.ensures _
+    not_fresh c.loop-words.invariant _ some _ c.get.ensures.lookup c.in-Some.is _ c.record_fresh.ensures _
     c.if-not-record_fresh.true
 
 pub overflow_cast-allow : goal.overflow_cast-allow
@@ -26,7 +26,7 @@ overflow_cast-allow c =
     let some = part_first template_of c.args.records.now c.loop-words.words-index _ c.loop-words-test.true
     c.template_of-template.ensures in
     record {
-      fits = count_fits c.loop-words.invariant _ some c.if-allow-template.false _ c.record_fresh.ensures
+      fits = count_fits c.loop-words.invariant _ some _ c.get.ensures.lookup c.in-Some.is _ c.record_fresh.ensures
           c.if-not-record_fresh.false c.requires.1;
     }
 
@@ -34,7 +34,7 @@ pub loop-words-preserved : goal.loop-words-preserved
 loop-words-preserved c =
     let some = part_first template_of c.args.records.now c.loop-words.words-index _ c.loop-words-test.true
     c.template_of-template.ensures in
-    record_passed c.loop-words.invariant _ some c.if-allow-template.false _ c.record_fresh.ensures
+    record_passed c.loop-words.invariant _ some _ c.get.ensures.lookup c.in-Some.is _ c.record_fresh.ensures
     c.if-not-record_fresh.false c.requires.1
 
 pub overflow_add-sum : goal.overflow_add-sum

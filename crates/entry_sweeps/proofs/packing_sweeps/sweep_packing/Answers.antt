@@ -10,7 +10,7 @@ use Rattle.entry_sweeps.proofs.packing_sweeps.sweep_packing.Goals as goal
 use Rattle.entry_sweeps.proofs.packing_sweeps.sweep_packing.Goals.{else-stays, then-stays}
 
 pub loop-i-init : goal.loop-i-init
-loop-i-init c = none_packed (kept_by (stays _)) _ _ _ (omega arith) c.requires.0 c.requires.1
+loop-i-init c = none_packed (kept_by (stays _)) _ _ _ (omega arith) c.requires
 
 pub run_up_to-run-requires : goal.run_up_to-run-requires
 run_up_to-run-requires c = let more : 0 < c.args.entries - c.loop-i.i = omega arith in search (run_before, place_within, rules)

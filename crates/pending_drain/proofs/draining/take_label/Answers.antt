@@ -1,28 +1,21 @@
 use mathlib.Core.Path.{◌≡◌}
-use Prim.Native.Nat.{◌+◌, ◌*◌, ◌≤◌}
-use lib.ListN.{length}
+use Prim.Native.Nat.{◌+◌, ◌*◌}
 use Rattle.config.specs.Limits.{record_words}
 use borrow.Author.Rules.{rules}
+use Rattle.table.specs.Layout.{records_at}
 use Rattle.table.specs.Table.{records_from}
 use Rattle.table.specs.Reads.{label_or_none}
 use Rattle.table_records.specs.Choose.{skipping}
 use Rattle.pending_calls.specs.Removal.{unexpired}
 use Rattle.pending_drain.specs.Handing.{zeros}
-use Rattle.pending_drain.proofs.AsRead.{held_room}
-use Rattle.pending_calls.proofs.NoneRemoved.{records_inside}
+use Rattle.pending_flows.proofs.HeldRows.{rows_held}
 use Rattle.pending_drain.proofs.NoneTaken.{none_taken}
 use Rattle.pending_drain.proofs.SomeTaken.{skips_whole, live_told, some_taken, expired_taken}
 use Rattle.pending_drain.proofs.draining.take_label.Goals as goal
-use Rattle.pending_drain.proofs.draining.take_label.Goals.{After-nothing_goes, After-skip_records, After-label_test-test}
+use Rattle.pending_drain.proofs.draining.take_label.Goals.{After-skip_records, After-label_test-test}
 
--- the records are within the words, the one that is handed out too
-inside : (c : After-nothing_goes) →
-    c.args.from + record_words * (c.args.header.figures.templates + c.args.header.figures.chance) ≤ length
-    c.args.words.now
-inside c = records_inside _ (length c.args.bytes.now) c.requires.header_value c.requires.from_value
-
-pub records_in-held-requires : goal.records_in-held-requires
-records_in-held-requires c = held_room _ _ c.requires.header_value c.requires.from_value
+pub templates-requires : goal.templates-requires
+templates-requires c = rows_held _ _ c.requires.header_value
 
 pub remove_none-requires : goal.remove_none-requires
 remove_none-requires c = record {
@@ -31,28 +24,18 @@ remove_none-requires c = record {
 }
 
 pub returns-then-nothing_goes : goal.returns-then-nothing_goes
-returns-then-nothing_goes c = none_taken _ c.args.bytes.now _ c.requires.header_value c.requires.from_value
-    c.requires.label_value _ c.requires.live_value
-    (rw c.records_in-held.ensures.templates at c.nothing_goes.ensures) c.if-nothing_goes.true c.remove_none.ensures
+returns-then-nothing_goes c = none_taken _ c.args.bytes.now _ c.requires.header_value c.requires.label_value _
+    c.requires.live_value
+    (rw c.templates.ensures.held at (c.nothing_goes.ensures c.if-nothing_goes.true)) c.remove_none.ensures
 
 pub returns-then-figures-eq0 : goal.returns-then-figures-eq0
-returns-then-figures-eq0 c = expired_taken _ _ c.requires.header_value c.requires.from_value
-    c.if-figures-eq0.true _ _ (rw c.label_number-number.ensures at c.remove_expired_of.ensures)
-
-pub overflow_mul-behind : goal.overflow_mul-behind
-overflow_mul-behind c = search (inside (goal.at.overflow_mul-behind c).After-nothing_goes, rules)
-
-pub overflow_add-behind : goal.overflow_add-behind
-overflow_add-behind c = search (inside (goal.at.overflow_add-behind c).After-nothing_goes, rules)
-
-pub records_in-handed-requires : goal.records_in-handed-requires
-records_in-handed-requires c = search (inside (goal.at.records_in-handed-requires c).After-nothing_goes, rules)
+returns-then-figures-eq0 c = expired_taken _ _ c.requires.header_value c.if-figures-eq0.true _ _ (rw c.label_number-number.ensures at c.remove_expired_of.ensures)
 
 -- the bodies of what is handed out are skipped, and the expired ones of the label go
 skipped : (c : After-skip_records) → c.skip_records.new.skip
-    ≡ skipping zeros (records_from c.args.words.now (c.args.from + record_words * c.args.header.figures.templates)
-    c.args.header.figures.chance)
-skipped c = rw c.records_in-handed.ensures.templates at c.skip_records.ensures
+    ≡ skipping zeros (records_from c.args.words.now
+    (records_at c.args.header.limits + record_words * c.args.header.figures.templates) c.args.header.figures.chance)
+skipped c = rw c.templates.ensures.handed at c.skip_records.ensures
 
 tested : (c : After-label_test-test) → c.label_test-test.result
     ≡ unexpired c.args.header.limits.ttl c.args.clock (label_or_none c.args.label)
@@ -60,17 +43,16 @@ tested c = rw c.label_number-number.ensures at c.label_test-test.ensures
 
 pub remove_whole-requires : goal.remove_whole-requires
 remove_whole-requires c = let holds = c.requires.header_value in
-    let from = c.requires.from_value in
     let labelled = c.requires.label_value in
     let skips = skipped (goal.at.remove_whole-requires c).After-skip_records in
     let test = tested (goal.at.remove_whole-requires c).After-label_test-test in
     record {
       header_value = holds;
-      skip_value = skips_whole _ c.args.bytes.now _ holds from labelled c.args.clock skips;
-      live_value = live_told _ c.args.bytes.now _ holds from labelled _ skips test _ c.requires.live_value;
+      skip_value = skips_whole _ c.args.bytes.now _ holds labelled c.args.clock skips;
+      live_value = live_told _ c.args.bytes.now _ holds labelled _ skips test _ c.requires.live_value;
     }
 
 pub returns : goal.returns
-returns c = some_taken _ c.args.bytes.now _ c.requires.header_value c.requires.from_value c.requires.label_value _
+returns c = some_taken _ c.args.bytes.now _ c.requires.header_value c.requires.label_value _
     (skipped (goal.at.returns c).After-skip_records) (tested (goal.at.returns c).After-label_test-test)
     c.remove_whole.ensures

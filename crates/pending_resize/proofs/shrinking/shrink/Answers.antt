@@ -1,6 +1,6 @@
 use native.Mathlib.Omega.{arith}
 use Rattle.pending_flows.proofs.Questions.{bodies_few}
-use Rattle.pending_resize.proofs.Left.{new_few, cut_fits, total_fits, places_fit, records_fit, move_fits}
+use Rattle.pending_resize.proofs.Left.{new_few, cut_fits, total_fits, bytes_cut, places_fit, records_fit, move_fits}
 use Rattle.pending_resize.proofs.Left.{shrinks}
 use Rattle.pending_resize.proofs.shrinking.shrink.Goals as goal
 
@@ -8,14 +8,15 @@ pub records_at-from-requires : goal.records_at-from-requires
 records_at-from-requires c = bodies_few _ _ c.requires.holds.legal _ c.requires.holds.limits
 
 pub cut-few-requires : goal.cut-few-requires
-cut-few-requires c = let fits =
-    cut_fits _ _ c.args.bytes.now c.requires.holds c.requires.accepted c.records_at-from.ensures in
-    record { entries_bound = fits.0; handed_bound = fits.1 }
+cut-few-requires c = cut_fits _ _ c.args.bytes.now c.requires.holds c.requires.accepted c.records_at-from.ensures
 
 pub fit_total-left-requires : goal.fit_total-left-requires
-fit_total-left-requires c = let fits =
-    total_fits _ _ c.args.bytes.now c.requires.holds c.requires.accepted c.records_at-from.ensures c.cut-few.ensures in
-    record { entries_bound = fits.0; records_bound = fits.1 }
+fit_total-left-requires c = record {
+  rows_value =
+      total_fits _ _ c.args.bytes.now c.requires.holds c.requires.accepted c.records_at-from.ensures c.cut-few.ensures;
+  bytes_value =
+      bytes_cut _ _ c.args.bytes.now c.requires.holds c.requires.accepted c.records_at-from.ensures c.cut-few.ensures;
+}
 
 pub fit_places-requires : goal.fit_places-requires
 fit_places-requires c = places_fit _ _ c.args.bytes.now c.requires.holds c.requires.accepted c.records_at-from.ensures

@@ -1,4 +1,6 @@
-use Rattle.std.proofs.Common.{◌≡◌, ◌+◌, ◌-◌, subst, arith, rules}
+use mathlib.Core.Path.{refl}
+use Rattle.std.proofs.Common.{◌≡◌, ◌+◌, ◌-◌, ◌∙◌, sym, subst, arith, rules}
+use borrow.Author.Tests.{leb-true, leb-false}
 use Rattle.table_records.specs.Passes.{OpensIndex}
 use Rattle.table_records.proofs.OpensIndex.{none_opened, not_greater, key_moved, all_greater}
 use Rattle.table_promotion.proofs.adding.open_index.Goals as goal
@@ -6,15 +8,17 @@ use Rattle.table_promotion.proofs.adding.open_index.Goals as goal
 pub loop-k-init : goal.loop-k-init
 loop-k-init c = none_opened _ _ _ _
 
-pub returns-then-key_at-key : goal.returns-then-key_at-key
-returns-then-key_at-key c =
+pub returns-then-key_at_most : goal.returns-then-key_at_most
+returns-then-key_at_most c =
     let here : c.loop-k.k - 1 + 1 ≡ c.loop-k.k = omega arith in
+    let within = leb-true _ _ (sym c.key_at_most.ensures ∙ c.if-key_at_most.true) in
     rw here (search (not_greater, rules))
 
 pub loop-k-preserved : goal.loop-k-preserved
-loop-k-preserved c = key_moved c.loop-k.invariant _ (search rules)
-    (rw c.records_in-known.ensures.templates at c.key_at.ensures)
-    (search rules) c.if-key_at-key.false
+loop-k-preserved c =
+    let told = rw c.records_in-known.ensures.templates at c.key_at_most.ensures in
+    let greater = leb-false _ _ (sym told ∙ c.if-key_at_most.false) in
+    key_moved c.loop-k.invariant _ (search rules) refl (search rules) greater
 
 pub returns : goal.returns
 returns c =

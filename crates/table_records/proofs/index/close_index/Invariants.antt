@@ -9,7 +9,6 @@ use Rattle.table_records.proofs.index.close_index.Given as goal
 abbrev pub invariant-loop-k : goal.invariant-loop-k
 invariant-loop-k g l = record {
   few : l.remain ≤ l.k;
-  fit : (j : ℕ) → word l.words j < 2 ^ 64;
-  passed : (ps : List ℕ) → TellsPositions (goal.F-post g l.moved) ps → Remapping l.from l.records ps
-      l.initial.words l.words l.remain (l.records - l.k) (l.from + record_words * l.k);
+  passed : (ps : List ℕ) → TellsPositions (goal.F-post g l.moved) ps → ((j : ℕ) → word l.words j < 2 ^ 64) ×
+      Remapping l.from l.records ps l.initial.words l.words l.remain (l.records - l.k) (l.from + record_words * l.k);
 }

@@ -15,7 +15,10 @@ overflow_add-records c = record { fits = records_fit _ _ c.requires }
 pub sweep_packing-left-requires : goal.sweep_packing-left-requires
 sweep_packing-left-requires c = let below = entries_below _ _ c.requires c.records_at-from.ensures in
     let inside = records_inside _ _ c.requires c.records_at-from.ensures in
-    (omega (arith, below, inside), places_within c.args.words.now c.args.bytes.now c.requires)
+    record {
+      in_words = omega (arith, below, inside);
+      in_bytes = places_within c.args.words.now c.args.bytes.now c.requires;
+    }
 
 pub take_both-requires : goal.take_both-requires
 take_both-requires c = omega (
