@@ -8,7 +8,7 @@ ghost use Rattle.output_budget.specs.Budget.{values_of_excess, told_of_exceeded,
 ghost use Rattle.output_limits.specs.Limits.{told_of_limits};
 ghost use Rattle.output_pending.specs.Pending.{told_of_materialize};
 ghost use Rattle.budget_words.specs.Words.{exceeded_of, budget_of, words_of, cost_of, preflight_by, report_by};
-ghost use Rattle.budget_words.specs.Words.{Answers};
+ghost use Rattle.budget_words.specs.Words.{written_over, Answers};
 
 use answer_numbers::{number_of, write_count, write_values};
 use output_budget::{DecodedOutputBudget, DecodedOutputLimit, OutputBudgetExceeded};
@@ -32,7 +32,8 @@ fn read_exceeded(which: u64, configured: u64, attempted: u64) -> Option<OutputBu
     })
 }
 
-// The budget of seven words.
+// The budget of seven words, as C hands them over. A count is made by its type's name, here and below: with `From<u64>`
+// and `.into()`, which was tried, no line would say which of the two counts a number is.
 #[tactic(auto, unfolding(crate::specs::Words::budget_of))]
 pub fn read_budget(words: &[u64; 7]) -> DecodedOutputBudget
     ensures { result ≡ budget_of words.now }
@@ -85,7 +86,7 @@ fn read_cost(words: &[u64; 3]) -> PendingOutputPreflight
     }
 }
 
-// A preflight, as the number and the cost that one of the preflight functions gave.
+// A preflight, as the number and the cost that C hands over: what one of the preflight functions gave.
 #[tactic(auto, unfolding(crate::specs::Words::preflight_by))]
 pub fn read_preflight(number: u32, cost: &[u64; 3]) -> Result<PendingOutputPreflight, Refusal>
     ensures { result ≡ preflight_by number cost.now }
@@ -97,7 +98,7 @@ pub fn read_preflight(number: u32, cost: &[u64; 3]) -> Result<PendingOutputPrefl
     }
 }
 
-// The decoder's report: none where it failed.
+// The decoder's report, as the number and the cost that C hands over: none where it failed.
 #[tactic(auto, unfolding(crate::specs::Words::report_by))]
 pub fn read_report(success: u32, reported: &[u64; 3]) -> Option<PendingOutputPreflight>
     ensures { result ≡ report_by success reported.now }
@@ -130,13 +131,20 @@ pub fn export_limits(
     write_values(answer, limits, limit_words)
 }
 
+// Writes an excess where there is one.
+fn write_excess(exceeded: Option<OutputBudgetExceeded>, excess: &mut [u64; 3])
+    ensures { excess.new ≡ written_over (told_of_exceeded exceeded).values excess.old }
+{
+    if let Some(exceeded) = exceeded {
+        *excess = excess_words(exceeded);
+    }
+}
+
 // Answers the number of a reservation, and writes the excess where it is refused.
 pub fn export_reserve(answer: Result<(), OutputBudgetExceeded>, excess: &mut [u64; 3]) -> u32
     ensures { Answers (told_of_reserve answer) result excess.old excess.new }
 {
-    if let Err(exceeded) = answer {
-        *excess = excess_words(exceeded);
-    }
+    write_excess(answer.err(), excess);
     number_of(answer)
 }
 
@@ -144,9 +152,7 @@ pub fn export_reserve(answer: Result<(), OutputBudgetExceeded>, excess: &mut [u6
 pub fn export_exceeded(exceeded: Option<OutputBudgetExceeded>, excess: &mut [u64; 3]) -> u32
     ensures { Answers (told_of_exceeded exceeded) result excess.old excess.new }
 {
-    if let Some(recorded) = exceeded {
-        *excess = excess_words(recorded);
-    }
+    write_excess(exceeded, excess);
     0
 }
 

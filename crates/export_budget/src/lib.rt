@@ -1,5 +1,6 @@
 // The use of a budget, which crosses as seven words (budget_words). Words 2 and 3 are the use: a checkpoint is a copy
-// of them.
+// of them. A call that changes a budget reads it and writes it back in lines of its own: one function given the change
+// would be no plainer, since a refused rollback writes nothing.
 #![tactic(auto)]
 
 ghost use Rattle.export_budget.specs.Budget.{ReservesIn, RollsBackIn, TellsRemaining, TellsExceeded, TakesIn};

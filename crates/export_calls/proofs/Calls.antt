@@ -6,7 +6,7 @@ use Rattle.table.specs.declared.Damaged.{Damaged}
 use Rattle.pending_offer.specs.declared.offering.OfferRefusal.{OfferRefusal}
 use Rattle.pending_restore.specs.declared.PutBackRefusal.{PutBackRefusal}
 use Rattle.pending_resize.specs.declared.resizing.ResizeRefusal.{ResizeRefusal}
-use mathlib.Core.Path.{◌≡◌, ap, subst}
+use mathlib.Core.Path.{◌≡◌, ap}
 use mathlib.Core.List.{List, [], ◌∷◌}
 use Prim.Native.Nat.{ℕ}
 use Rattle.config.specs.declared.PendingFlowsConfig.{PendingFlowsConfig}
@@ -57,11 +57,9 @@ pub exports_put_back : {id n : ℕ} {a a' : Areas} {x : Result ⊤ PutBackRefusa
     NumberIs put_back_number x r → ExportsPutBack id n a r a'
 exports_put_back {x = x} p n = exports x p p.performs.answer (put_back_exported x n)
 
-pub exports_resize : {l m : PendingFlowsConfig} {a a' : Areas} {x : Result ℕ ResizeRefusal} {r v v' : ℕ} → l ≡ m →
-    Resizes l a x a' → CountIs resize_number x r v v' → ExportsResize m a r a' v v'
-exports_resize {a = a} {a' = a'} {x = x} {r = r} {v = v} {v' = v'} e p h =
-    subst (λ (l : PendingFlowsConfig). ExportsResize l a r a' v v') e
-    (exports_values x p p.performs.answer (resize_exported x h))
+pub exports_resize : {l : PendingFlowsConfig} {a a' : Areas} {x : Result ℕ ResizeRefusal} {r v v' : ℕ} →
+    Resizes l a x a' → CountIs resize_number x r v v' → ExportsResize l a r a' v v'
+exports_resize {x = x} p h = exports_values x p p.performs.answer (resize_exported x h)
 
 pub exports_clear : {a a' : Areas} {x : Result ⊤ Damaged} {r : ℕ} → Clears a x a' → NumberIs (λ _. 28) x r →
     ExportsClear a r a'

@@ -1,4 +1,5 @@
-// Queued bodies against a budget, which crosses as seven words (budget_words).
+// Queued bodies against a budget, which crosses as seven words (budget_words). A number and a cost come apart because C
+// hands them over so: `read_preflight` makes them one value.
 #![tactic(auto)]
 
 ghost use Rattle.export_pending.specs.Pending.{FitsWhole, FitsRemaining, MaterializesIn};

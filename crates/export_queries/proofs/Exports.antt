@@ -40,11 +40,9 @@ opening_number_lem : (x : Result ⊤ ConfigRefusal) → answer_number x ≡ expo
 opening_number_lem (Ok tt) = refl
 opening_number_lem (Err n) = refl
 
-pub exports_open : {l m : PendingFlowsConfig} {a a' : Areas} {x : Result ⊤ ConfigRefusal} {r : ℕ} → l ≡ m →
-    Opens l a x a' → NumberIs refusal_number x r → ExportsOpen m a r a'
-exports_open {a = a} {a' = a'} {x = x} {r = r} e p n =
-    subst (λ (l : PendingFlowsConfig). ExportsOpen l a r a') e
-    (exports x p p.answer (limits_number_is x n ∙ opening_number_lem x))
+pub exports_open : {l : PendingFlowsConfig} {a a' : Areas} {x : Result ⊤ ConfigRefusal} {r : ℕ} → Opens l a x a' →
+    NumberIs refusal_number x r → ExportsOpen l a r a'
+exports_open {x = x} p n = exports x p p.answer (limits_number_is x n ∙ opening_number_lem x)
 
 pub exports_query : {question : Cache → Answer} {a a' : Areas} {x : Answer} {r : ℕ} {vs vs' : List ℕ} →
     Asks question a x a' → Exported x r vs vs' → ExportsQuery question a r a' vs vs'

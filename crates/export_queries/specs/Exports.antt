@@ -2,7 +2,7 @@
 use Rattle.std.specs.Prelude.{Ok, Err}
 use Rattle.pending_handed_out.specs.declared.BodyPlace.{BodyPlace}
 use Rattle.pending_handed_out.specs.declared.PlaceRefusal.{PlaceRefusal}
-use Rattle.std.specs.Prelude.{None, Result, ⊤}
+use Rattle.std.specs.Prelude.{Result, ⊤}
 use Rattle.config.specs.declared.ConfigRefusal.{ConfigRefusal}
 use Rattle.std.specs.Prelude.{◌≡◌, cond, List, [], ◌∷◌, ℕ}
 use Rattle.config.specs.declared.PendingFlowsConfig.{PendingFlowsConfig}
@@ -64,8 +64,8 @@ abbrev pub asked_in : (Cache → Answer) → Areas → Answer
 asked_in question a = asked question (view a)
 
 -- numbers 1 to 5 of these limits for areas of so many words and bytes; the TTL plays no part
-abbrev pub ExportsValidate : (words bytes t b e m r : ℕ) → Type 0
-ExportsValidate words bytes t b e m r = r ≡ config_number (limits_of t b e m None) bytes words
+abbrev pub ExportsValidate : (words bytes : ℕ) → PendingFlowsConfig → (r : ℕ) → Type 0
+ExportsValidate words bytes limits r = r ≡ config_number limits bytes words
 
 abbrev pub ExportsOpen : PendingFlowsConfig → Areas → ℕ → Areas → Type 0
 ExportsOpen limits a r a' =

@@ -1,4 +1,4 @@
-// Limits as numbers, opening a cache with them, and the queries, over numbers and slices only.
+// Limits as numbers, opening a cache with limits, and the queries: each answer a number.
 #![tactic(auto)]
 
 mod opening;

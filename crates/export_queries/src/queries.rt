@@ -18,6 +18,7 @@ fn export_accepts(answer: Result<bool, Damaged>, accepts: &mut u64) -> u32
 }
 
 // Whether an offer would be accepted: 0 with 1 for yes or 0 for no, or 28.
+#[tactic(auto, using(crate::proofs::Exports::exports_query))]
 pub fn would_accept(
     words: &[u64],
     bytes: &[u8],
@@ -58,6 +59,7 @@ fn export_figures(answer: Result<CacheFigures, Damaged>, figures: &mut [u64; 6])
 }
 
 // Templates and bodies held, bytes held, both counters and the bodies handed out: 0 with these, or 28.
+#[tactic(auto, using(crate::proofs::Exports::exports_query))]
 pub fn figures(words: &[u64], bytes: &[u8], figures: &mut [u64; 6]) -> u32
     ensures { ExportsFigures (areas_of words.now bytes.now) result
         (areas_of words.now bytes.now) figures.old figures.new }

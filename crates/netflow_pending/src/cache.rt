@@ -1,8 +1,11 @@
-// The cache's calls: each answers document 01's number, 0 on success, and writes values then only.
+// The cache's calls: each answers document 01's number, 0 on success, and writes values then only. C hands limits over
+// one by one; they go on as one value.
 ghost use Rattle.pending_flows.specs.View.{areas_of};
 ghost use Rattle.export_queries.specs.Exports.{limits_from, ExportsValidate, ExportsOpen};
 ghost use Rattle.export_queries.specs.Exports.{ExportsWouldAccept, ExportsFigures, ExportsPlace};
 ghost use Rattle.export_calls.specs.Calls.{ExportsCache, ExportsDrain, ExportsPutBack, ExportsResize, ExportsClear};
+
+use export_queries::limits_from;
 
 // Whether a cache can be opened with these limits in areas of these lengths: 0, or 1 to 5.
 #[unsafe(no_mangle)]
@@ -14,17 +17,18 @@ pub extern "C" fn netflow_pending_validate_config(
     max_entry_size_bytes: usize,
     max_total_bytes: usize,
 ) -> u32
-    ensures { ExportsValidate words_len bytes_len max_pending_flows max_entries_per_template
-        max_entry_size_bytes max_total_bytes result }
+    ensures { ExportsValidate words_len bytes_len (limits_from max_pending_flows max_entries_per_template
+        max_entry_size_bytes max_total_bytes 0 0) result }
 {
-    export_queries::validate_config(
-        words_len,
-        bytes_len,
+    let limits = limits_from(
         max_pending_flows,
         max_entries_per_template,
         max_entry_size_bytes,
         max_total_bytes,
-    )
+        0,
+        0,
+    );
+    export_queries::validate_config(words_len, bytes_len, limits)
 }
 
 // Opens an empty cache in areas with any content: 0, or 1 to 5 with nothing changed.
@@ -43,16 +47,15 @@ pub extern "C" fn netflow_pending_open(
         max_total_bytes has_ttl ttl) (areas_of words.old bytes.now) result
         (areas_of words.new bytes.now) }
 {
-    export_queries::open(
-        words,
-        bytes,
+    let limits = limits_from(
         max_pending_flows,
         max_entries_per_template,
         max_entry_size_bytes,
         max_total_bytes,
         has_ttl,
         ttl,
-    )
+    );
+    export_queries::open(words, bytes, limits)
 }
 
 // Offers a body: 0, or 28, 6 or 20.
@@ -116,17 +119,15 @@ pub extern "C" fn netflow_pending_resize(
         max_total_bytes has_ttl ttl) (areas_of words.old bytes.old) result
         (areas_of words.new bytes.new) dropped.old dropped.new }
 {
-    export_calls::resize(
-        words,
-        bytes,
+    let limits = limits_from(
         max_pending_flows,
         max_entries_per_template,
         max_entry_size_bytes,
         max_total_bytes,
         has_ttl,
         ttl,
-        dropped,
-    )
+    );
+    export_calls::resize(words, bytes, limits, dropped)
 }
 
 // Empties the cache and leaves its counters: 0, or 28.

@@ -1,5 +1,5 @@
 -- The decoded-output budget (document 01, numbers 23, 24 and 26). `.0` of a count is its number.
-use Rattle.std.specs.Prelude.{◌≡◌, Bool, true, false, cond, ◌||◌, List, [], ◌∷◌, Option, Some, None, Result, Ok, Err}
+use Rattle.std.specs.Prelude.{◌≡◌, Bool, cond, ◌||◌, List, [], ◌∷◌, Option, Some, None, is_some, Result, Ok, Err}
 use Rattle.std.specs.Prelude.{ℕ, ◌+◌, ◌-◌, ◌≤◌, ◌^◌, min, max, ltb, eqb}
 use Rattle.output_preflight.specs.declared.FieldValues.{FieldValues}
 use Rattle.output_preflight.specs.declared.PayloadBytes.{PayloadBytes}
@@ -108,8 +108,7 @@ told_of_rollback (Err e) = refusal 26
 
 -- whether an excess is recorded
 abbrev pub is_recorded : Option OutputBudgetExceeded → Bool
-is_recorded None = false
-is_recorded (Some e) = true
+is_recorded x = is_some x
 
 -- document 01: the first excess stays recorded
 abbrev pub first_excess : Option OutputBudgetExceeded → OutputBudgetExceeded → Option OutputBudgetExceeded

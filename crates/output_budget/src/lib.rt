@@ -36,7 +36,8 @@ pub struct DecodedOutputBudget {
     pub exceeded: Option<OutputBudgetExceeded>,
 }
 
-// A pair of counts: those in use, a checkpoint of them, or what remains.
+// A pair of counts: those in use, a checkpoint of them, or what remains. Calls are given the two apart, as C gives them
+// and as each is tested by itself.
 #[derive(Clone, Copy, Debug, PartialEq, Eq)]
 pub struct OutputCounts {
     pub values: FieldValues,
@@ -145,6 +146,8 @@ impl DecodedOutputBudget {
         requires { SumsWithin self.old values payload }
         ensures { self.new ≡ grown self.old values payload }
     {
+        // Read whole: with `+=` on each count, which was tried, the sums' overflow stays open. They are at most the
+        // limits, and of a limit that is not read the check does not know that it fits 64 bits.
         let before = *self;
         self.used_values = FieldValues(before.used_values.0 + values.0);
         self.used_payload_bytes = PayloadBytes(before.used_payload_bytes.0 + payload.0);

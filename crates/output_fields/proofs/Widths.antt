@@ -2,7 +2,7 @@
 use mathlib.Core.Path.{◌≡◌, refl, ap, sym, ◌∙◌}
 use mathlib.Core.Bool.{Bool, true, false, cond, ◌||◌}
 use mathlib.Core.List.{List, [], ◌∷◌}
-use Prim.Native.Nat.{ℕ, ◌+◌, ◌*◌, ◌-◌, ◌≤◌, ◌<◌}
+use Prim.Native.Nat.{ℕ, ◌+◌, ◌-◌, ◌^◌, ◌≤◌, ◌<◌}
 use native.Mathlib.Numerals.{add-one}
 use native.Mathlib.Omega.{arith}
 use lib.ListN.{length, get_or, take, drop, drop_of_length-le}
@@ -10,6 +10,8 @@ use lib.Seq.{drop-cons}
 use lib.Dec.{eqb}
 use Rattle.std.specs.List.{list_any}
 use borrow.Author.Tests.{eq-eqb, ne_eqb}
+use Rattle.wire.specs.declared.Reading.TheVariants.{IpfixVariable}
+use Rattle.wire.specs.Size.{least_size}
 use Rattle.output_fields.specs.declared.Layout.{Layout}
 use Rattle.output_fields.specs.declared.Layout.TheVariants.{Fixed, One, Several}
 use Rattle.output_fields.specs.Layout.{has_variable, behind_fixed, layout_of}
@@ -27,8 +29,8 @@ any_variable (w ∷ ws) = rw (any_variable ws) (either_cond (eqb w 65535) (has_v
 
 -- The loop over the widths before the first variable-length field: i fields passed, of `lead` bytes.
 pub record LeadPassed (ws : List ℕ) (lead i : ℕ) : Type 0 where
-  -- each has at most 65,535 bytes
-  pub small : lead ≤ 65535 * i
+  -- they and the least size of the fields that are left are the template's
+  pub whole : lead + least_size (drop i ws) IpfixVariable ≡ least_size ws IpfixVariable
   -- the layout is that of the fields that are left, behind these bytes
   pub left : layout_of ws ≡ behind_fixed lead (layout_of (drop i ws))
 
@@ -43,18 +45,29 @@ behind_both a b (One lead) = ap One (omega arith)
 behind_both a b Several = refl
 
 pub no_lead : (ws : List ℕ) → LeadPassed ws 0 0
-no_lead ws = record { small = omega arith; left = behind_nothing (layout_of ws) }
+no_lead ws = record { whole = omega arith; left = behind_nothing (layout_of ws) }
 
 module _ {ws : List ℕ} {lead i : ℕ} (inv : LeadPassed ws lead i) (h : i < length ws) where
-  pub lead_passed : {w : ℕ} → w ≡ get_or ws i 0 → w ≤ 65535 → (w ≡ 65535 → ⊥) → LeadPassed ws (lead + w) (i + 1)
+  -- the least size of the fields that are left, behind a plain one
+  least_left : (get_or ws i 0 ≡ 65535 → ⊥) →
+      least_size (drop i ws) IpfixVariable ≡ get_or ws i 0 + least_size (drop (i + 1) ws) IpfixVariable
+  unfolding least_size
+  least_left k = rw (add-one, drop-cons ws i 0, ne_eqb (get_or ws i 0) 65535 k)
+
+  -- and they lie within it
+  pub lead_within : least_size ws IpfixVariable < 2 ^ 64 → (get_or ws i 0 ≡ 65535 → ⊥) →
+      lead + get_or ws i 0 < 2 ^ 64
+  lead_within l k = let e = inv.whole in let f = least_left k in omega arith
+
+  pub lead_passed : (get_or ws i 0 ≡ 65535 → ⊥) → LeadPassed ws (lead + get_or ws i 0) (i + 1)
   unfolding layout_of
-  lead_passed {w} e l k =
-      let plain : get_or ws i 0 ≡ 65535 → ⊥ = λ f. k (e ∙ f) in
-      rw e
-      (record {
-        small = omega arith;
-        left = inv.left ∙ rw (add-one, drop-cons ws i 0, ne_eqb (get_or ws i 0) 65535 plain, behind_both);
-      })
+  lead_passed k =
+      let e = inv.whole in
+      let f = least_left k in
+      record {
+        whole = omega arith;
+        left = inv.left ∙ rw (add-one, drop-cons ws i 0, ne_eqb (get_or ws i 0) 65535 k, behind_both);
+      }
 
   -- a variable-length field; `b` says whether another stands in the rest of the widths
   module _ {w : ℕ} {b : Bool} (e : w ≡ get_or ws i 0) (k : w ≡ 65535)
@@ -75,4 +88,4 @@ pub all_fixed : {ws : List ℕ} {lead i : ℕ} → LeadPassed ws lead i → leng
 unfolding layout_of
 all_fixed {ws} inv h = sym (inv.left ∙ rw (drop_of_length-le ws h))
 
-pub ruleset layouts = (no_lead, lead_passed, several_found, one_alone, all_fixed)
+pub ruleset layouts = (no_lead, lead_within, lead_passed, several_found, one_alone, all_fixed)

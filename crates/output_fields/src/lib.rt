@@ -1,7 +1,9 @@
 // Where the lengths of a record's fields stand: the layout of a template, and length prefixes (output_budget.rs).
 #![tactic(auto)]
 
-ghost use Rattle.std.specs.Prelude.{◌≡◌, ◌+◌, ◌*◌, ◌≤◌, ◌<◌, length, get_or};
+ghost use Rattle.std.specs.Prelude.{◌≡◌, ◌+◌, ◌*◌, ◌^◌, ◌≤◌, ◌<◌, length, get_or};
+ghost use Rattle.wire.specs.declared.Reading.TheVariants.{IpfixVariable};
+ghost use Rattle.wire.specs.Size.{least_size};
 ghost use Rattle.output_fields.specs.Layout.{has_variable, layout_of};
 
 // Which fields of a template say their length themselves.
@@ -15,6 +17,17 @@ pub enum Layout {
     Several,
 }
 
+// What a scan in the variable reading looks for: records with fields of these widths, each of the least size or more,
+// and at most so many.
+#[derive(Clone, Copy, Debug)]
+pub struct VariableFraming<'a> {
+    pub widths: &'a [u16],
+    pub least: usize,
+    pub max_records: usize,
+    pub ghost sized: { least ≡ least_size widths.now IpfixVariable },
+    pub ghost some: { 0 < least },
+}
+
 // Whether a field says its length itself.
 fn has_variable(widths: &[u16]) -> bool
     ensures { result ≡ has_variable widths.now }
@@ -22,10 +35,10 @@ fn has_variable(widths: &[u16]) -> bool
     widths.contains(&65535)
 }
 
-// The layout of a template.
+// The layout of a template whose least size is a `usize`: what stands before a field then is one too.
 #[tactic(auto, using(crate::proofs::Widths::layouts))]
 pub fn layout_of(widths: &[u16]) -> Layout
-    requires { length widths.now ≤ 65535 }
+    requires { least_size widths.now IpfixVariable < 2 ^ 64 }
     ensures { result ≡ layout_of widths.now }
 {
     let mut lead: usize = 0;
@@ -41,18 +54,18 @@ pub fn layout_of(widths: &[u16]) -> Layout
     Layout::Fixed
 }
 
-// The byte at a place.
-pub fn byte_at(bytes: &[u8], at: usize) -> usize
-    requires { at < length bytes.now }
-    ensures { (result ≡ get_or bytes.now at 0) × (result ≤ 255) }
+// The first byte of a part.
+pub fn first_byte(field: &[u8]) -> usize
+    requires { 0 < length field.now }
+    ensures { (result ≡ get_or field.now 0 0) × (result ≤ 255) }
 {
-    bytes[at] as usize
+    field[0] as usize
 }
 
-// The length that stands in the two bytes behind a place.
-pub fn long_length(bytes: &[u8], at: usize) -> usize
-    requires { at + 2 < length bytes.now }
-    ensures { (result ≡ get_or bytes.now (at + 1) 0 * 256 + get_or bytes.now (at + 2) 0) × (result ≤ 65535) }
+// The length that stands in the two bytes behind the first.
+pub fn long_length(field: &[u8]) -> usize
+    requires { 2 < length field.now }
+    ensures { (result ≡ get_or field.now 1 0 * 256 + get_or field.now 2 0) × (result ≤ 65535) }
 {
-    u16::from_be_bytes([bytes[at + 1], bytes[at + 2]]) as usize
+    u16::from_be_bytes([field[1], field[2]]) as usize
 }

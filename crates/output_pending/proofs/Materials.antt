@@ -1,18 +1,15 @@
 -- A cost that fits what remains, added to the use. Assumes nothing.
-use mathlib.Core.Path.{◌≡◌, refl}
-use mathlib.Core.Bool.{Bool, true, false, ◌||◌}
+use mathlib.Core.Path.{◌≡◌}
+use mathlib.Core.Bool.{false}
 use Prim.Native.Nat.{ℕ, ◌+◌, ◌-◌, ◌≤◌, max}
 use native.Mathlib.Omega.{arith}
 use lib.Dec.{ltb}
 use borrow.Author.Tests.{ltb-false}
+use Rattle.std.proofs.lemmas.Bool.{or_parts}
 use Rattle.output_preflight.specs.declared.PendingOutputPreflight.{PendingOutputPreflight}
 use Rattle.output_budget.specs.declared.DecodedOutputBudget.{DecodedOutputBudget}
 use Rattle.output_budget.specs.Budget.{remaining_of, SumsWithin}
 use Rattle.output_pending.specs.Pending.{above}
-
-neither : (x y : Bool) → x || y ≡ false → (x ≡ false) × (y ≡ false)
-neither true y e = (e, (cc))
-neither false y e = (refl, e)
 
 within_left : (most used more : ℕ) → ltb (most - used) more ≡ false → used + more ≤ max most used
 within_left most used more e = omega (arith, ltb-false (most - used) more e)
@@ -21,5 +18,5 @@ within_left most used more e = omega (arith, ltb-false (most - used) more e)
 pub left_within : (b : DecodedOutputBudget) (cost : PendingOutputPreflight) → above cost (remaining_of b) ≡ false
     → SumsWithin b cost.field_values cost.field_payload_bytes
 left_within b cost h =
-    let n = neither _ _ h in
+    let n = or_parts _ _ h in
     record { values = within_left _ _ _ n.0; payload = within_left _ _ _ n.1 }

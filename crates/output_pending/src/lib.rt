@@ -37,7 +37,7 @@ impl From<PendingOutputError> for u32 {
 fn is_above(cost: PendingOutputPreflight, counts: OutputCounts) -> bool
     ensures { result ≡ above cost counts }
 {
-    counts.values.0 < cost.field_values.0 || counts.payload_bytes.0 < cost.field_payload_bytes.0
+    counts.values < cost.field_values || counts.payload_bytes < cost.field_payload_bytes
 }
 
 // Whether the decoder succeeded with this cost and this remainder.
@@ -93,6 +93,7 @@ pub fn validate_pending_full_budget(
 ) -> Result<(), PendingOutputError>
     ensures { told_of_fit result ≡ full_budget_told b preflight }
 {
+    // taken apart first: the form that document 01 names for this place
     let Ok(cost) = preflight else {
         return Err(PendingOutputError::Invalid);
     };
@@ -107,6 +108,7 @@ pub fn validate_pending_remaining(
 ) -> Result<(), PendingOutputError>
     ensures { told_of_fit result ≡ remaining_told b preflight }
 {
+    // taken apart first: the form that document 01 names for this place
     let Ok(cost) = preflight else {
         return Err(PendingOutputError::Invalid);
     };
@@ -123,6 +125,7 @@ pub fn materialize_pending(
 ) -> Result<usize, PendingOutputError>
     ensures { Materializes b.old preflight report result b.new }
 {
+    // taken apart first: the form that document 01 names for this place
     let Ok(cost) = preflight else {
         return Err(PendingOutputError::Invalid);
     };

@@ -1,21 +1,22 @@
 // The framing of a queued data-set body, and what decoding it would cost, before it is decoded (output_budget.rs).
 #![tactic(auto)]
 
-ghost use Rattle.std.specs.Prelude.{◌≡◌, ◌≤◌, ◌<◌, length};
+ghost use Rattle.std.specs.Prelude.{◌≡◌, ◌≤◌, ◌<◌};
 ghost use Rattle.wire.specs.Size.{least_size};
 ghost use Rattle.output_scan.specs.Scan.{scan_of};
 ghost use Rattle.output_preflight.specs.Preflight.{number_of, answer_of, figures_of, cost_of, preflight_of};
 
+use output_fields::VariableFraming;
 use output_scan::{Scanned, scan_fixed_body};
 use output_scan_variable::scan_variable_body;
 use wire::Reading;
 
 // A count of decoded field values.
-#[derive(Clone, Copy, Debug, PartialEq, Eq)]
+#[derive(Clone, Copy, Debug, PartialEq, Eq, PartialOrd, Ord)]
 pub struct FieldValues(pub usize);
 
 // A count of decoded payload bytes, without length prefixes.
-#[derive(Clone, Copy, Debug, PartialEq, Eq)]
+#[derive(Clone, Copy, Debug, PartialEq, Eq, PartialOrd, Ord)]
 pub struct PayloadBytes(pub usize);
 
 // What decoding a body costs, in both counts, and how many bytes it leaves.
@@ -95,12 +96,19 @@ fn scan_body(
     reading: Reading,
     max_records: usize,
 ) -> Scanned
-    requires { (length widths.now ≤ 65535) × (least ≡ least_size widths.now reading) × (0 < least) }
+    requires { (least ≡ least_size widths.now reading) × (0 < least) }
     ensures { result ≡ scan_of body.now widths.now reading max_records }
 {
     match reading {
         Reading::V9Fixed | Reading::IpfixFixed => scan_fixed_body(body.len(), least, max_records),
-        Reading::IpfixVariable => scan_variable_body(body, widths, least, max_records),
+        Reading::IpfixVariable => {
+            let framing = VariableFraming {
+                widths,
+                least,
+                max_records,
+            };
+            scan_variable_body(body, framing)
+        }
     }
 }
 

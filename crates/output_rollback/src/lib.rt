@@ -15,10 +15,10 @@ pub fn rollback(
 ) -> Result<(), AboveUse>
     ensures { RollsBack b.old values payload result b.new }
 {
-    if b.used_values.0 < values.0 {
+    if b.used_values < values {
         return Err(AboveUse);
     }
-    if b.used_payload_bytes.0 < payload.0 {
+    if b.used_payload_bytes < payload {
         return Err(AboveUse);
     }
     b.used_values = values;

@@ -8,7 +8,7 @@ use native.Mathlib.Numerals.{add-one}
 use native.Mathlib.Nat.{add-zero}
 use native.Mathlib.Omega.{arith}
 use lib.ListN.{length, get_or, take, drop, length-drop, drop_of_length-le}
-use lib.Seq.{drop-cons, drop-drop, get_or-drop}
+use lib.Seq.{drop-cons, drop-drop}
 use lib.Dec.{leb, ltb}
 use borrow.Author.Tests.{eq-eqb, ne_eqb, le-leb, ltb-true, ltb-false}
 use Rattle.wire.specs.declared.Reading.TheVariants.{IpfixVariable}
@@ -29,10 +29,14 @@ pub record Prefixed (bytes : List ℕ) (at p n : ℕ) : Type 0 where
   -- the field is that prefix and that content, if they end within the bytes
   pub field : variable_field (drop at bytes) ≡ span_of p n (length (drop at bytes))
 
+-- the part of a record from a place on, as the code lends it
+abbrev pub part_at : ℕ → List ℕ → List ℕ
+part_at at bytes = take (length bytes - at) (drop at bytes)
+
 -- Prefixes by their first byte.
-module _ (bytes : List ℕ) (at : ℕ) {b : ℕ} (h : at < length bytes) (e : b ≡ get_or bytes at 0) where
+module _ (bytes : List ℕ) (at : ℕ) {b : ℕ} (h : at < length bytes) (e : b ≡ get_or (part_at at bytes) 0 0) where
   first_byte : get_or (drop at bytes) 0 0 ≡ b
-  first_byte = get_or-drop at bytes 0 0 ∙ rw add-zero (sym e)
+  first_byte = ap (λ (l : List ℕ). get_or l 0 0) (sym (take_rest bytes at)) ∙ sym e
 
   pub short_prefixed : b ≤ 255 → (b ≡ 255 → ⊥) → Prefixed bytes at 1 b
   short_prefixed l k =
@@ -45,15 +49,14 @@ module _ (bytes : List ℕ) (at : ℕ) {b : ℕ} (h : at < length bytes) (e : b 
       }
 
   pub long_prefixed : {n : ℕ} → b ≡ 255 → at + 2 < length bytes →
-      n ≡ get_or bytes (at + 1) 0 * 256 + get_or bytes (at + 2) 0 → Prefixed bytes at 3 n
+      n ≡ get_or (part_at at bytes) 1 0 * 256 + get_or (part_at at bytes) 2 0 → Prefixed bytes at 3 n
   long_prefixed {n} k l g =
       let d = length-drop at bytes in
       let f = first_byte in
       record {
         some = omega arith;
         field = long_prefix (drop at bytes) (omega arith) (omega arith) (omega arith)
-            ∙ ap (λ (m : ℕ). span_of 3 m (length (drop at bytes)))
-            (rw (get_or-drop at bytes 1 0, get_or-drop at bytes 2 0) (sym g));
+            ∙ ap (λ (m : ℕ). span_of 3 m (length (drop at bytes))) (rw take_rest at (sym g));
       }
 
   pub prefix_missing : b ≡ 255 → length bytes ≤ at + 2 → variable_field (drop at bytes) ≡ Cut
@@ -110,6 +113,9 @@ module _ {bytes ws next : List ℕ} {at prefixes i : ℕ} (inv : FieldsSpared by
     -- a variable-length field has its prefix's first byte at least
     pub starts_inside : get_or ws i 0 ≡ 65535 → at < length bytes
     starts_inside k = let e = least_variable k in let m = inv.room in omega arith
+
+    pub some_inside : get_or ws i 0 ≡ 65535 → 0 < length (part_at at bytes)
+    some_inside k = let e = starts_inside k in let d = tail_length at bytes in omega arith
 
     fixed_field : (get_or ws i 0 ≡ 65535 → ⊥) → field_of (drop at bytes) (get_or ws i 0) IpfixVariable
         ≡ Whole (0 + get_or ws i 0) (get_or ws i 0)
@@ -189,7 +195,7 @@ module _ {bytes ws next : List ℕ} {at prefixes i : ℕ} (inv : FieldsSpared by
           by_test false w = field_cut inv.passed h (by_prefix ∙ rw w)
 
     -- As the code has them: a prefix of one byte, and one of three.
-    module _ {b : ℕ} (k : get_or ws i 0 ≡ 65535) (e : b ≡ get_or bytes at 0) where
+    module _ {b : ℕ} (k : get_or ws i 0 ≡ 65535) (e : b ≡ get_or (part_at at bytes) 0 0) where
       short_here : b < 255 → Prefixed bytes at 1 b
       short_here l = short_prefixed bytes at (starts_inside k) e (omega arith) (λ z. omega arith)
 
@@ -207,12 +213,15 @@ module _ {bytes ws next : List ℕ} {at prefixes i : ℕ} (inv : FieldsSpared by
         full : b ≡ 255
         full = omega arith
 
-        pub long_inside : 2 ≤ length next → at + 2 < length bytes
-        long_inside n =
+        two_more : 2 ≤ length next → at + 2 < length bytes
+        two_more n =
             let f = least_variable k in
             let g = inv.room in
             let o = spare_length in
             omega arith
+
+        pub long_inside : 2 ≤ length next → 2 < length (part_at at bytes)
+        long_inside n = let f = two_more n in let d = tail_length at bytes in omega arith
 
         pub prefix_cut : length next < 2 → fields_of bytes ws IpfixVariable ≡ Cut
         unfolding field_of
@@ -231,9 +240,9 @@ module _ {bytes ws next : List ℕ} {at prefixes i : ℕ} (inv : FieldsSpared by
                 (missing (prefix_missing bytes at (starts_inside k) e full (ltb-false (at + 2) (length bytes) t)))
 
         module _ {n : ℕ} (room : 2 ≤ length next)
-            (f : n ≡ get_or bytes (at + 1) 0 * 256 + get_or bytes (at + 2) 0) where
+            (f : n ≡ get_or (part_at at bytes) 1 0 * 256 + get_or (part_at at bytes) 2 0) where
           long_here : Prefixed bytes at 3 n
-          long_here = long_prefixed bytes at (starts_inside k) e full (long_inside room) f
+          long_here = long_prefixed bytes at (starts_inside k) e full (two_more room) f
 
           pub long_spared : n ≤ length (take (length next - 2) (drop 2 next)) →
               FieldsSpared bytes ws

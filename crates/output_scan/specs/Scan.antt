@@ -1,7 +1,9 @@
 -- The whole records at the front of a body, in any of the three readings (document 01, "Framing and cost").
 use Rattle.std.specs.Prelude.{cond, List, [], ◌∷◌, ℕ, zero, suc, ◌+◌, ◌*◌, ◌-◌, ◌/◌, min, length, drop, ltb}
 use Rattle.wire.specs.declared.Reading.{Reading}
+use Rattle.wire.specs.declared.Reading.TheVariants.{IpfixVariable}
 use Rattle.output_scan.specs.declared.Scanned.{Scanned}
+use Rattle.output_fields.specs.declared.VariableFraming.{VariableFraming}
 use Rattle.output_fields.specs.Field.{Span, Whole, Cut, field_of}
 
 -- a span behind one of so many bytes, n of them content
@@ -62,6 +64,10 @@ figures (x ∷ xs) left = more 1 x.payload (figures xs (left - x.size))
 -- document 01's scan of a body: records, payload, remainder
 unfoldable pub scan_of : List ℕ → List ℕ → Reading → ℕ → Scanned
 scan_of body ws r limit = figures (records_of body ws r limit) (length body)
+
+-- in the variable reading, as the records are framed
+abbrev pub variable_scan_of : List ℕ → VariableFraming → Scanned
+variable_scan_of body f = scan_of body f.widths.now IpfixVariable f.max_records
 
 -- the same figures where every record has one size, from the body's length alone: "records are the whole ones, at most
 -- the record limit"

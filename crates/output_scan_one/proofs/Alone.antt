@@ -21,8 +21,8 @@ use Rattle.output_fields.proofs.Tails.{tail_length}
 use Rattle.output_scan.proofs.Records.{cut_field, RecordsPassed, no_record_passed, record_passed}
 use Rattle.output_scan.proofs.Spare.{FieldsSpared, Prefixed, none_spared, fixed_spared, spare_length}
 use Rattle.output_scan.proofs.Spare.{least_variable, prefix_cut, variable_cut, variable_spared, all_spared}
-use Rattle.output_scan.proofs.Spare.{short_prefixed, long_prefixed, part_of_part}
-use Rattle.output_scan.proofs.Layouts.{no_variable_plain}
+use Rattle.output_scan.proofs.Spare.{part_at, short_prefixed, long_prefixed, part_of_part}
+use Rattle.output_scan.proofs.Layouts.{no_variable_plain, lead_below}
 
 -- the next field of a list that is not at its end
 module _ (ws : List ℕ) (i : ℕ) {vs : List ℕ} {w : ℕ} (e : drop i ws ≡ w ∷ vs) where
@@ -116,10 +116,7 @@ module _ (ws : List ℕ) {lead least : ℕ} (one : layout_of ws ≡ One lead) (e
       let d = tail_length least bytes in
       omega arith
 
-  pub lead_inside : lead < least
-  lead_inside = let p = least_parts in omega arith
-
-  pub prefix_missing : {b : ℕ} → b ≡ get_or bytes lead 0 → b ≡ 255 → length bytes - least < 2 →
+  pub prefix_missing : {b : ℕ} → b ≡ get_or (part_at lead bytes) 0 0 → b ≡ 255 → length bytes - least < 2 →
       record_of bytes ws IpfixVariable ≡ Cut
   prefix_missing f g l =
       let d = tail_length least bytes in
@@ -153,7 +150,7 @@ pub record Stepped (bytes : List ℕ) (lead least step content : ℕ) : Type 0 w
   pub ends : step ≤ length bytes
 
 pub short_step : (bytes : List ℕ) (lead least : ℕ) {b step content : ℕ} → lead < least → least ≤ length bytes →
-    b ≡ get_or bytes lead 0 → b ≤ 255 → (b ≡ 255 → ⊥) → content ≡ b → step ≡ least →
+    b ≡ get_or (part_at lead bytes) 0 0 → b ≤ 255 → (b ≡ 255 → ⊥) → content ≡ b → step ≡ least →
     Stepped bytes lead least step content
 short_step bytes lead least i h e m k f g =
     record {
@@ -164,7 +161,8 @@ short_step bytes lead least i h e m k f g =
     }
 
 pub long_step : (bytes : List ℕ) (lead least : ℕ) {b n step content : ℕ} → lead < least → 2 ≤ length bytes - least →
-    b ≡ get_or bytes lead 0 → b ≡ 255 → n ≡ get_or bytes (lead + 1) 0 * 256 + get_or bytes (lead + 2) 0 → content ≡ n →
+    b ≡ get_or (part_at lead bytes) 0 0 → b ≡ 255 →
+    n ≡ get_or (part_at lead bytes) 1 0 * 256 + get_or (part_at lead bytes) 2 0 → content ≡ n →
     step ≡ least + 2 → Stepped bytes lead least step content
 long_step bytes lead least i h e k f g o =
     record {
@@ -217,7 +215,8 @@ module _ (body ws : List ℕ) {limit : ℕ} (rest : List ℕ) {k long lead least
       let t = s.step_is in
       let u = s.ends in
       let o = inv.inside in
-      let i = lead_inside ws one e rest h in
+      let b = lead_below ws one in
+      let i : lead < least = omega arith in
       let z : step + content ≡ least + (s.prefix - 1) + content = omega arith in
       let d = length-drop (step + content) rest in
       let w = record_passed inv.passed l (record_alone ws one e rest h s.prefixed (omega arith))

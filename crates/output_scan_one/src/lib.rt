@@ -2,27 +2,25 @@
 #![tactic(auto)]
 
 ghost use Rattle.std.specs.Prelude.{◌≡◌};
-ghost use Rattle.wire.specs.declared.Reading.TheVariants.{IpfixVariable};
-ghost use Rattle.wire.specs.Size.{least_size};
 ghost use Rattle.output_fields.specs.declared.Layout.TheVariants.{One};
 ghost use Rattle.output_fields.specs.Layout.{layout_of};
-ghost use Rattle.output_scan.specs.Scan.{scan_of};
+ghost use Rattle.output_scan.specs.Scan.{variable_scan_of};
 
-use output_fields::{byte_at, long_length};
+use output_fields::{VariableFraming, first_byte, long_length};
 use output_scan::Scanned;
 
-// The whole records of a body whose template has one variable-length field, behind `lead` bytes: at most `max_records`.
-// A record has the least size and the field's content, and two bytes more behind a long prefix.
-pub fn scan_one_variable(
-    body: &[u8],
-    widths: &[u16],
-    lead: usize,
-    least: usize,
-    max_records: usize,
-) -> Scanned
-    requires { (layout_of widths.now ≡ One lead) × (least ≡ least_size widths.now IpfixVariable) }
-    ensures { result ≡ scan_of body.now widths.now IpfixVariable max_records }
+// The whole records of a body whose template has one variable-length field, behind `lead` bytes. A record has the least
+// size and the field's content, and two bytes more behind a long prefix.
+#[tactic(auto, using(output_scan::proofs::Layouts::lead_below))]
+pub fn scan_one_variable(body: &[u8], framing: VariableFraming, lead: usize) -> Scanned
+    requires { layout_of framing.widths.now ≡ One lead }
+    ensures { result ≡ variable_scan_of body.now framing.entry }
 {
+    let VariableFraming {
+        least,
+        max_records,
+        ..
+    } = framing;
     let mut rest = body;
     let mut records: usize = 0;
     let mut long: usize = 0;
@@ -31,14 +29,15 @@ pub fn scan_one_variable(
         if rest.len() < least {
             break;
         }
-        let mut content = byte_at(rest, lead);
+        let field = &rest[lead..];
+        let mut content = first_byte(field);
         let mut step = least;
         if content == 255 {
             if rest.len() - least < 2 {
                 break;
             }
             step = least + 2;
-            content = long_length(rest, lead);
+            content = long_length(field);
         }
         if rest.len() - step < content {
             break;

@@ -1,21 +1,23 @@
 // The scan of a body field by field, for a template with several variable-length fields (output_budget.rs).
 #![tactic(auto)]
 
-ghost use Rattle.std.specs.Prelude.{◌≡◌, ◌<◌};
-ghost use Rattle.wire.specs.declared.Reading.TheVariants.{IpfixVariable};
-ghost use Rattle.wire.specs.Size.{least_size};
-ghost use Rattle.output_scan.specs.Scan.{scan_of};
+ghost use Rattle.std.specs.Prelude.{◌≡◌};
+ghost use Rattle.output_scan.specs.Scan.{variable_scan_of};
 
-use output_fields::{byte_at, long_length};
+use output_fields::{VariableFraming, first_byte, long_length};
 use output_scan::Scanned;
 
-// The whole records of a body, field by field: at most `max_records`. The least size of a record is passed first:
-// `next` starts behind it, and a variable-length field moves it on. A cut field ends the scan before its record: it
-// leaves the loop 'records, and not 'fields alone.
-pub fn scan_fields(body: &[u8], widths: &[u16], least: usize, max_records: usize) -> Scanned
-    requires { (least ≡ least_size widths.now IpfixVariable) × (0 < least) }
-    ensures { result ≡ scan_of body.now widths.now IpfixVariable max_records }
+// The whole records of a body, field by field. The least size of a record is passed first: `next` starts behind it, and
+// a variable-length field moves it on. A cut field ends the scan before its record: it leaves the loop 'records, and
+// not 'fields alone.
+pub fn scan_fields(body: &[u8], framing: VariableFraming) -> Scanned
+    ensures { result ≡ variable_scan_of body.now framing.entry }
 {
+    let VariableFraming {
+        widths,
+        least,
+        max_records,
+    } = framing;
     let mut rest = body;
     let mut records: usize = 0;
     let mut payload: usize = 0;
@@ -32,7 +34,8 @@ pub fn scan_fields(body: &[u8], widths: &[u16], least: usize, max_records: usize
                 at += width as usize;
                 continue 'fields;
             }
-            let short = byte_at(rest, at);
+            let field = &rest[at..];
+            let short = first_byte(field);
             if short < 255 {
                 if next.len() < short {
                     break 'records;
@@ -46,7 +49,7 @@ pub fn scan_fields(body: &[u8], widths: &[u16], least: usize, max_records: usize
                 break 'records;
             }
             next = &next[2..];
-            let long = long_length(rest, at);
+            let long = long_length(field);
             if next.len() < long {
                 break 'records;
             }

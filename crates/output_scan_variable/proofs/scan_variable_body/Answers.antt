@@ -3,10 +3,7 @@ use Rattle.output_scan.proofs.Fixed.{by_division}
 use Rattle.output_scan.proofs.Layouts.{fixed_plain}
 use Rattle.output_scan_variable.proofs.scan_variable_body.Goals as goal
 
-pub scan_one_variable-requires : goal.scan_one_variable-requires
-scan_one_variable-requires c = (sym c.layout_of.ensures ∙ c.in-One.is, c.requires.1)
-
 pub returns-in-Fixed : goal.returns-in-Fixed
 returns-in-Fixed c = by_division _ _ _ _ _ _
     (fixed_plain _ (sym c.layout_of.ensures ∙ c.in-Fixed.is))
-    c.requires.1 c.requires.2 c.scan_fixed_body.ensures
+    c.args.framing.sized c.args.framing.some c.scan_fixed_body.ensures
