@@ -27,7 +27,7 @@ pub turn_taken : (there : List ℕ) (kept : ℕ) (opened : Bool) {ready : ℕ} {
     {there' out' : List ℕ} → length there ≤ 4096 → Ready there kept ready →
     RunsText opened (take ready there) a done a' out' → there' ≡ copy_within there ready (length there) 0 →
     TakesTurn there kept opened a
-    (record { kept = length there - ready; opened = done.opened; bad = done.bad; filled = done.filled }) a' there' out'
+    (record { kept = length there - ready; done = done }) a' there' out'
 unfolding turn_of
 turn_taken there kept opened {ready} {done} long right runs is = record {
   left = rw (is, ← right.count) (left_moved there ready right.among);

@@ -16,9 +16,9 @@ pub record TakesTurn (there : List ℕ) (kept : ℕ) (opened : Bool) (a : Areas)
     (there' out' : List ℕ) : Type 0 where
   pub left : take r.kept there' ≡ (turn_in there kept opened a).kept
   pub among : r.kept ≤ length there
-  pub open_after : r.opened ≡ (turn_in there kept opened a).after.opened
-  pub bad_after : r.bad ≡ (turn_in there kept opened a).after.bad
+  pub open_after : r.done.opened ≡ (turn_in there kept opened a).after.opened
+  pub bad_after : r.done.bad ≡ (turn_in there kept opened a).after.bad
   pub holds : view a' ≡ (turn_in there kept opened a).after.holds
-  pub rows : take r.filled out' ≡ (turn_in there kept opened a).rows
+  pub rows : take r.done.filled out' ≡ (turn_in there kept opened a).rows
   pub few_left : r.kept ≤ longest
-  pub short : r.filled ≤ 438272
+  pub short : r.done.filled ≤ 438272

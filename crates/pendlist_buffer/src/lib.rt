@@ -5,7 +5,7 @@ ghost use Rattle.std.specs.Prelude.{◌≡◌, ◌≤◌, length};
 ghost use Rattle.pending_flows.specs.View.{areas_of};
 ghost use Rattle.pendlist_buffer.specs.Buffer.{TakesTurn};
 
-use pendlist_texts::run_text;
+use pendlist_texts::{TextDone, run_text};
 use pendlist_turns::bytes_ready;
 
 // What a turn leaves.
@@ -13,12 +13,8 @@ use pendlist_turns::bytes_ready;
 pub struct Turn {
     // the bytes at the front: a line that may go on
     pub kept: usize,
-    // whether a cache is open
-    pub opened: bool,
-    // whether the list ended with `bad`
-    pub bad: bool,
-    // the bytes of the rows
-    pub filled: usize,
+    // how far the lines came
+    pub done: TextDone,
 }
 
 // Carries out what is ready of the bytes that are there, of which `kept` were there before, puts the rows into `out`
@@ -39,10 +35,5 @@ pub fn take_turn(
     let done = run_text(words, bytes, &there[..ready], opened, out);
     let left = there.len() - ready;
     there.copy_within(ready.., 0);
-    Turn {
-        kept: left,
-        opened: done.opened,
-        bad: done.bad,
-        filled: done.filled,
-    }
+    Turn { kept: left, done }
 }

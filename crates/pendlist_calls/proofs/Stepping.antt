@@ -8,29 +8,21 @@ use mathlib.Core.List.{List}
 use mathlib.Core.Option.{Option, none, some}
 use Prim.Native.Nat.{ℕ}
 use native.Mathlib.Omega.{arith}
-use Rattle.config.specs.declared.PendingFlowsConfig.{PendingFlowsConfig}
-use Rattle.config.specs.declared.ConfigRefusal.{ConfigRefusal}
-use Rattle.std.specs.Prelude.{⊤, Option as Parsed, Some, None}
+use Rattle.std.specs.Prelude.{⊤, Option as Parsed}
 use Rattle.pendlist_commands.specs.declared.Command.{Command}
-use Rattle.pendlist_commands.specs.declared.Command.TheVariants as Says
-use Rattle.pendlist_commands.specs.declared.OfferLine.{OfferLine}
-use Rattle.pendlist_commands.specs.declared.DrainLine.{DrainLine}
 use Rattle.pendlist_lines.specs.Grammar.{line_of, in_order}
 use Rattle.pendlist_input.specs.Body.{ramp}
-use Rattle.cache_model.specs.Cache.{Cache, Figures, Answer, number, tells, Outcome as Done}
+use Rattle.cache_model.specs.Cache.{Cache, Figures, number, tells}
 use Rattle.cache_model.specs.Offer.{offered}
-use Rattle.cache_model.specs.Calls.{drained}
 use Rattle.cache_model.specs.Queries.{figures}
-use Rattle.cache_model.specs.Reply.{called}
-use Rattle.pending_flows.specs.View.{Areas, view}
-use Rattle.pending_flows.specs.Opening.{Opens}
+use Rattle.pending_flows.specs.View.{Areas}
 use Rattle.pending_queries.specs.Queries.{asked, figures_record, figures_answer}
 use Rattle.pending_queries.specs.declared.CacheFigures.{CacheFigures}
 use Rattle.pending_calls.specs.Promises.{Performs}
 use Rattle.pending_offer.specs.Promises.{body_of, Offers, offer_answer}
 use Rattle.pendlist_rows.specs.declared.Outcome.{Outcome}
-use Rattle.pendlist_rows.specs.declared.Outcome.TheVariants.{Opened, Told, Bad}
-use Rattle.pendlist_calls.specs.Steps.{figure_of, row_of, row_after, call_step, step_of, Steps, RunsLine}
+use Rattle.pendlist_rows.specs.declared.Outcome.TheVariants.{Told, Bad}
+use Rattle.pendlist_calls.specs.Steps.{row_of, row_after, Steps, RunsLine}
 
 -- The figures after a call.
 module _ (letter n : ℕ) (v : Option Cache) {r : Result CacheFigures Damaged}
@@ -58,33 +50,6 @@ module _ (letter n : ℕ) (v : Option Cache) {r : Result CacheFigures Damaged}
       by_view (some c) a = let z : number 28 ≡ tells (figures c) = sym (ap figures_answer e) ∙ a in
           let y : ◌≡◌ {A = ℕ} 0 1 = cc in absurd (omega arith)
 
--- `c`.
-module _ {limits : PendingFlowsConfig} {a a' : Areas} {r : Result ⊤ ConfigRefusal} (done : Opens limits a r a') where
-  pub open_taken : r ≡ Ok tt → Steps (Some (Says.Open limits)) a Opened a'
-  unfolding step_of
-  open_taken e = record { outcome = rw (sym done.answer, e); holds = done.holds }
-
-  pub open_refused : {n : ConfigRefusal} → r ≡ Err n → Steps (Some (Says.Open limits)) a Bad a'
-  unfolding step_of
-  open_refused e = record { outcome = rw (sym done.answer, e); holds = done.holds }
-
--- `o` and `d`: the call's answer as the table has it, and the figures of what is then held.
-module _ {f : Cache → Done} {a a' : Areas} {x : Answer} (done : Performs f a x a') (letter : ℕ) where
-  row_right : {n : ℕ} {r : Outcome} → n ≡ figure_of x → r ≡ row_after letter n (view a') →
-      r ≡ (call_step letter (called f (view a))).outcome
-  row_right e g = g ∙ rw (e, done.answer, done.holds)
-
-module _ {a a' : Areas} {x : Answer} {n : ℕ} {r : Outcome} where
-  pub offer_told : (o : OfferLine) → Performs (offered o.id (body_of (ramp 0 o.len) o.clock)) a x a' →
-      n ≡ figure_of x → r ≡ row_after 111 n (view a') → Steps (Some (Says.Offer o)) a r a'
-  unfolding step_of
-  offer_told o done e g = record { outcome = row_right done 111 e g; holds = done.holds }
-
-  pub drain_told : (d : DrainLine) → Performs (drained d.id d.clock) a x a' →
-      n ≡ figure_of x → r ≡ row_after 100 n (view a') → Steps (Some (Says.Drain d)) a r a'
-  unfolding step_of
-  drain_told d done e g = record { outcome = row_right done 100 e g; holds = done.holds }
-
 -- A line that was read, put in order, and is known to say this.
 module _ (opened : Bool) (line : List ℕ) {read wanted : Parsed Command} (parsed : read ≡ line_of line)
     (ordered : wanted ≡ in_order opened read) {a : Areas} where
@@ -93,17 +58,7 @@ module _ (opened : Bool) (line : List ℕ) {read wanted : Parsed Command} (parse
       let is : in_order opened (line_of line) ≡ x = rw (← parsed) (sym ordered ∙ e) in
       rw is done
 
-  pub nothing_run : wanted ≡ None → RunsLine opened line a Bad a
-  unfolding step_of
-  nothing_run e =
-      let is : in_order opened (line_of line) ≡ None = rw (← parsed) (sym ordered ∙ e) in
-      rw is (record { outcome = refl; holds = refl })
-
 -- The body that is offered is the one that was filled, as long as the line says.
 pub filled_offered : (n : ℕ) {id now : ℕ} {body : List ℕ} {a a' : Areas} {r : Result ⊤ OfferRefusal} →
     body ≡ ramp 0 n → Offers id body now a r a' → Performs (offered id (body_of (ramp 0 n) now)) a (offer_answer r) a'
 filled_offered n e done = rw e at done.performs
-
-pub length_offered : (id now n m : ℕ) {a a' : Areas} {x : Answer} → n ≡ m →
-    Performs (offered id (body_of (ramp 0 n) now)) a x a' → Performs (offered id (body_of (ramp 0 m) now)) a x a'
-length_offered id now n m e done = rw e at done

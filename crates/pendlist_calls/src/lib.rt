@@ -1,4 +1,5 @@
-// One line of a list, carried out on the lent areas (document 01, "Cases").
+// One line of a list, carried out on the lent areas (document 01, "Cases"). They are two parameters: some calls change
+// the words alone.
 #![tactic(auto)]
 
 ghost use Rattle.std.specs.Prelude.{◌≡◌, length};
@@ -41,6 +42,7 @@ fn row_after(words: &[u64], bytes: &[u8], call: u8, answer: u64) -> Outcome
 }
 
 // `c`: opens the cache.
+#[tactic(auto, unfolding(crate::specs::Steps::step_of))]
 fn run_open(words: &mut [u64], bytes: &[u8], config: PendingFlowsConfig) -> Outcome
     ensures { Steps (Some (Says.Open config)) (areas_of words.old bytes.now) result
         (areas_of words.new bytes.now) }
@@ -59,6 +61,7 @@ fn offer_figure(answer: Result<(), OfferRefusal>) -> u64
 }
 
 // Fills a body and offers it.
+#[tactic(auto, using(crate::proofs::Stepping::filled_offered))]
 fn offer_filled(
     words: &mut [u64],
     bytes: &mut [u8],
@@ -89,6 +92,7 @@ fn offer_line(words: &mut [u64], bytes: &mut [u8], line: OfferLine) -> Result<()
 }
 
 // `o`: offers a body.
+#[tactic(auto, unfolding(crate::specs::Steps::step_of))]
 fn run_offer(words: &mut [u64], bytes: &mut [u8], line: OfferLine) -> Outcome
     ensures { Steps (Some (Says.Offer line)) (areas_of words.old bytes.old) result
         (areas_of words.new bytes.new) }
@@ -108,6 +112,7 @@ fn drain_figure(answer: Result<usize, Damaged>) -> u64
 }
 
 // `d`: drains a template.
+#[tactic(auto, unfolding(crate::specs::Steps::step_of))]
 fn run_drain(words: &mut [u64], bytes: &[u8], line: DrainLine) -> Outcome
     ensures { Steps (Some (Says.Drain line)) (areas_of words.old bytes.now) result
         (areas_of words.new bytes.now) }
@@ -117,6 +122,7 @@ fn run_drain(words: &mut [u64], bytes: &[u8], line: DrainLine) -> Outcome
 }
 
 // Carries out a line, given without its newline and whether a cache is open.
+#[tactic(auto, using(crate::proofs::Stepping::line_run), unfolding(crate::specs::Steps::step_of))]
 pub fn run_line(words: &mut [u64], bytes: &mut [u8], opened: bool, line: &[u8]) -> Outcome
     ensures { RunsLine opened line.now (areas_of words.old bytes.old) result
         (areas_of words.new bytes.new) }

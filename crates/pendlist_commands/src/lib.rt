@@ -9,7 +9,7 @@ use config::PendingFlowsConfig;
 use pendlist_words::{number_at, word_is};
 
 // `o id length clock`: a body of that length is offered to the template.
-#[derive(Clone, Copy)]
+#[derive(Clone, Copy, PartialEq, Eq)]
 pub struct OfferLine {
     pub id: u16,
     pub len: u16,
@@ -17,14 +17,14 @@ pub struct OfferLine {
 }
 
 // `d id clock`: the template is drained.
-#[derive(Clone, Copy)]
+#[derive(Clone, Copy, PartialEq, Eq)]
 pub struct DrainLine {
     pub id: u16,
     pub clock: u64,
 }
 
 // What a line that is not malformed asks for: a cache is opened, a body offered, or a template drained.
-#[derive(Clone, Copy)]
+#[derive(Clone, Copy, PartialEq, Eq)]
 pub enum Command {
     // `c` with five limits
     Open(PendingFlowsConfig),

@@ -1,5 +1,5 @@
-// The program `pendlist` on a long list that `oracle record-pendlist` wrote, whose table is the Rust's. A second `c`
-// ends it with `bad`.
+// The program `pendlist` once more, since a crate has one input to be tried on: here a long list that
+// `oracle record-pendlist` wrote, whose table is the Rust's. A second `c` ends it with `bad`.
 #![tactic(auto)]
 
 use std::io;

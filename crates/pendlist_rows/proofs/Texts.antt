@@ -6,18 +6,17 @@ use Prim.Native.Nat.{ℕ, zero, suc, ◌+◌, ◌*◌, ◌-◌, ◌/◌, ◌%◌
 use native.Mathlib.Nat.{add-zero, pow-suc, one-le-pow}
 use native.Mathlib.Numerals.{add-one, unary_clauses}
 use native.Mathlib.Omega.{arith}
-use lib.ListN.{length, get_or, take, set, length-append, length-set}
-use lib.Seq.{length-take-le, take-suc, take-suc-set, take_at, take-length}
+use lib.ListN.{length, get_or, take, drop, set, length-set}
+use lib.Seq.{length-take-le, take-add, take-suc, take-suc-set, drop_at, take-length}
 use lib.Dec.{ltb}
 use borrow.Author.Tests.{ltb-true, ltb-false}
-use Rattle.areas.specs.Overwrite.{put_at}
+use borrow.Rule.Slice.PartMut.{mid_of, put_mid, post_of, take_put, mid_len, same_len_mid}
 use Rattle.std.specs.Fmt.{decimal, digits, digits_onto, digit_glyph}
 use Rattle.std.specs.Prelude.{◌==◌}
 use Rattle.std.proofs.lemmas.Bool.Decides.{nat_tests}
-use Rattle.pendlist_rows.specs.declared.Row.{Row}
-use Rattle.pendlist_rows.specs.declared.Outcome.{Outcome}
-use Rattle.pendlist_rows.specs.declared.Outcome.TheVariants.{Opened, Told, Bad}
-use Rattle.pendlist_rows.specs.Text.{places_from, decimal_of, last_digits, number_text, numbers_text, row_text, outcome_text, Puts}
+use Rattle.std.proofs.lemmas.List.{take-append-le}
+use Rattle.std.proofs.lemmas.Slice.{take-put_mid}
+use Rattle.pendlist_rows.specs.Text.{places_from, decimal_of, last_digits, number_text, numbers_text, Puts}
 
 -- The fewest digits that hold a number, tried from j on.
 record Fewest (n most k : ℕ) : Type 0 where
@@ -103,40 +102,51 @@ decimal_is {n} h =
     all_digits n 64 (places_from 19 1 n) (omega arith)
     (places_fewest n 19 1 (omega arith) (λ more. absurd (omega arith)) (omega arith))
 
--- One byte, and one piece behind another.
-pub byte_put : (b at : ℕ) (out : List ℕ) → at < length out → Puts (b ∷ []) 1 at out (at + 1) (set out at b)
-byte_put b at out h = record { follows = rw add-one (take-suc-set out at b h); short = omega arith }
+-- One piece behind another: it is put into the part that begins behind the first.
+module _ {text more : List ℕ} {most most' r r' : ℕ} where
+  pub put_more : (out part : List ℕ) → Puts text most r out → Puts more most' r' part → r ≤ length out →
+      r' ≤ length part → Puts (text ++ more) (most + most') (r + r') (put_mid r (length out - r) out part)
+  put_more out part first then within within' =
+      let whole : List ℕ = put_mid r (length out - r) out part in
+      let post : List ℕ = post_of r (length out - r) out in
+      let behind : drop r whole ≡ part ++ post = drop_at (take r out) (part ++ post) r (length-take-le r out within) in
+      record {
+        stands =
+            take-add r r' whole
+            ∙ rw (
+              take_put r (length out - r) out part within,
+              behind,
+              take-append-le r' part post within',
+              first.stands,
+              then.stands,
+            );
+        short = omega (arith, first.short, then.short);
+      }
 
-pub bytes_put : (bs : List ℕ) (n at : ℕ) (out : List ℕ) → n ≡ length bs → at + n ≤ length out →
-    Puts bs n at out (at + n) (put_at at bs out)
-unfolding put_at
-bytes_put bs n at out e h = record {
-  follows =
-      rw (← append_assoc)
-      (take_at (take at out ++ bs) _ (at + n)
-      (length-append (take at out) bs ∙ rw (length-take-le at out (omega arith), e)));
-  short = omega arith;
+-- a first byte, and a last one
+pub first_put : (b : ℕ) (out : List ℕ) → 0 < length out → Puts (b ∷ []) 1 1 (set out 0 b)
+first_put b [] h = absurd (omega arith)
+first_put b (x ∷ out) h = record { stands = refl; short = omega arith }
+
+pub last_put : (b : ℕ) (out : List ℕ) {text : List ℕ} {most r : ℕ} → Puts text most r out → r < length out →
+    Puts (text ++ (b ∷ [])) (most + 1) (r + 1) (set out r b)
+last_put b out {r = r} text h = record {
+  stands = rw (add-one, take-suc-set out r b h, text.stands);
+  short = omega (arith, text.short);
 }
 
-module _ {text more : List ℕ} {most most' at r r' : ℕ} {out out' out'' : List ℕ} where
-  pub put_more : Puts text most at out r out' → Puts more most' r out' r' out'' →
-      Puts (text ++ more) (most + most') at out r' out''
-  put_more first then = record {
-    follows = then.follows ∙ rw (first.follows, append_assoc);
-    short = omega (arith, first.short, then.short);
-  }
-
 -- a blank, then the digits
-pub number_put : (n at : ℕ) {digits out out' : List ℕ} → n < 18446744073709551616 → digits ≡ decimal n → length digits
-    ≤ 20 →
-    at + 21 ≤ length out → out' ≡ put_at (at + 1) digits (set out at 32) →
-    Puts (number_text n) 21 at out (at + 1 + length digits) out'
-number_put n at {digits} {out} {out'} fits right few h is =
-    let blank : Puts (32 ∷ []) 1 at out (at + 1) (set out at 32) = byte_put 32 at out (omega arith) in
-    let behind : Puts digits (length digits) (at + 1) (set out at 32) (at + 1 + length digits) out' =
-    rw is (bytes_put digits (length digits) (at + 1) (set out at 32) refl (omega (arith, length-set out at 32))) in
-    let both : Puts (32 ∷ digits) (1 + length digits) at out (at + 1 + length digits) out' = put_more blank behind in
-    record { follows = both.follows ∙ rw (right, decimal_is fits); short = omega arith }
+pub number_put : (n : ℕ) (out : List ℕ) {digits part : List ℕ} → n < 18446744073709551616 → digits ≡ decimal n →
+    length digits ≤ 20 → 21 ≤ length out → part ≡ digits →
+    Puts (number_text n) 21 (1 + length digits) (put_mid 1 (1 + length digits - 1) (set out 0 32) part)
+number_put n out {digits} {part} fits right few room is =
+    let blank : take 1 (set out 0 32) ≡ 32 ∷ [] = (first_put 32 out (omega arith)).stands in
+    record {
+      stands =
+          take-put_mid 1 _ (set out 0 32) part (1 + length digits) (rw is) (omega (arith, length-set out 0 32))
+          ∙ rw (blank, is, right, decimal_is fits);
+      short = omega arith;
+    }
 
 -- Numbers, one after the other.
 numbers_end : (ns : List ℕ) (n : ℕ) → numbers_text (ns ++ (n ∷ [])) ≡ numbers_text ns ++ number_text n
@@ -144,54 +154,56 @@ unfolding numbers_text
 numbers_end [] n = append-nil (number_text n)
 numbers_end (m ∷ ns) n = rw (numbers_end ns n) (sym (append_assoc (number_text m) (numbers_text ns) (number_text n)))
 
-pub record NumbersPut (numbers : List ℕ) (at i end : ℕ) (out₀ out : List ℕ) : Type 0 where
+pub record NumbersPut (numbers : List ℕ) (i end : ℕ) (out₀ out : List ℕ) : Type 0 where
   pub passed : i ≤ length numbers
   pub same_length : length out ≡ length out₀
-  pub puts : Puts (numbers_text (take i numbers)) (21 * i) at out₀ end out
+  pub puts : Puts (numbers_text (take i numbers)) (21 * i) end out
 
-pub none_put : (numbers : List ℕ) (at : ℕ) (out : List ℕ) → NumbersPut numbers at 0 at out out
+pub none_put : (numbers out : List ℕ) → NumbersPut numbers 0 0 out out
 unfolding numbers_text
-none_put numbers at out = record {
+none_put numbers out = record {
   passed = omega arith;
   same_length = refl;
-  puts = record { follows = sym (append-nil (take at out)); short = omega arith };
+  puts = record { stands = refl; short = omega arith };
 }
 
-module _ {numbers : List ℕ} {at i end : ℕ} {out₀ out : List ℕ} (inv : NumbersPut numbers at i end out₀ out) where
-  pub one_put : {r : ℕ} {out' : List ℕ} → i < length numbers → length out' ≡ length out →
-      Puts (number_text (get_or numbers i 0)) 21 end out r out' → NumbersPut numbers at (i + 1) r out₀ out'
-  one_put {r} {out'} h e next =
+module _ {numbers : List ℕ} {i end : ℕ} {out₀ out : List ℕ} (inv : NumbersPut numbers i end out₀ out) where
+  pub one_put : {r : ℕ} {part : List ℕ} → i < length numbers → 21 * length numbers ≤ length out₀ →
+      length part ≡ length (mid_of end (length out - end) out) → Puts (number_text (get_or numbers i 0)) 21 r part →
+      NumbersPut numbers (i + 1) (end + r) out₀ (put_mid end (length out - end) out part)
+  one_put {r} {part} h room long next =
+      let short : end ≤ 21 * i = inv.puts.short in
+      let left : length part ≡ length out - end = long ∙ mid_len end (length out) out (omega arith) in
       let longer : numbers_text (take (i + 1) numbers) ≡ numbers_text (take i numbers) ++ number_text
       (get_or numbers i 0) =
       rw (add-one, take-suc numbers i 0 h) (numbers_end (take i numbers) (get_or numbers i 0)) in
-      let both : Puts _ (21 * i + 21) at out₀ r out' = put_more inv.puts next in
+      let both : Puts _ (21 * i + 21) (end + r) (put_mid end (length out - end) out part) =
+      put_more out part inv.puts next (omega (arith, inv.same_length)) (omega (arith, next.short, inv.same_length)) in
       record {
         passed = omega arith;
-        same_length = e ∙ inv.same_length;
-        puts = record { follows = both.follows ∙ rw longer; short = omega (arith, both.short) };
+        same_length = same_len_mid end (length out - end) out part long ∙ inv.same_length;
+        puts = record { stands = both.stands ∙ rw longer; short = omega (arith, both.short) };
       }
 
-  pub all_put : length numbers ≤ i → Puts (numbers_text numbers) (21 * length numbers) at out₀ end out
+  pub all_put : length numbers ≤ i → Puts (numbers_text numbers) (21 * length numbers) end out
   all_put h =
       let z : i ≡ length numbers = omega (arith, inv.passed) in
       rw (z, take-length) at inv.puts
 
 pub ruleset putting = (none_put, one_put, all_put)
 
--- What a line comes to.
-module _ {outcome : Outcome} {at : ℕ} {out : List ℕ} where
-  pub nothing_told : outcome ≡ Opened → Puts (outcome_text outcome) 107 at out at out
-  nothing_told e = record { follows = rw e (sym (append-nil (take at out))); short = omega arith }
-
-  pub row_told : {row : Row} {r : ℕ} {out' : List ℕ} → outcome ≡ Told row → Puts (row_text row) 107 at out r out' →
-      Puts (outcome_text outcome) 107 at out r out'
-  row_told e told = rw e told
-
-  pub bad_told : {out' : List ℕ} → outcome ≡ Bad → at + 107 ≤ length out →
-      out' ≡ put_at at (98 ∷ 97 ∷ 100 ∷ 10 ∷ []) out → Puts (outcome_text outcome) 107 at out (at + 4) out'
-  bad_told e h is =
-      let four : Puts (98 ∷ 97 ∷ 100 ∷ 10 ∷ []) 4 at out (at + 4) (put_at at (98 ∷ 97 ∷ 100 ∷ 10 ∷ []) out) =
-      bytes_put (98 ∷ 97 ∷ 100 ∷ 10 ∷ []) 4 at out refl (omega arith) in
-      record { follows = rw (is, e) four.follows; short = omega arith }
-
-pub ruleset telling = (nothing_told, row_told, bad_told)
+-- a letter, numbers, and a newline
+pub row_put : (letter : ℕ) (text out part : List ℕ) {r : ℕ} → 107 ≤ length out →
+    length part ≡ length (mid_of 1 (length (set out 0 letter) - 1) (set out 0 letter)) →
+    Puts text 105 r part →
+    Puts (letter ∷ (text ++ (10 ∷ []))) 107 (1 + r + 1)
+    (set (put_mid 1 (length (set out 0 letter) - 1) (set out 0 letter) part) (1 + r) 10)
+row_put letter text out part {r} room long told =
+    let begun : List ℕ = set out 0 letter in
+    let kept : length begun ≡ length out = length-set out 0 letter in
+    let left : length part ≡ length begun - 1 = long ∙ mid_len 1 (length begun) begun (omega arith) in
+    let both : Puts (letter ∷ text) 106 (1 + r) (put_mid 1 (length begun - 1) begun part) =
+    put_more begun part (first_put letter out (omega arith)) told (omega arith) (omega (arith, told.short)) in
+    let same : length (put_mid 1 (length begun - 1) begun part) ≡ length begun =
+    same_len_mid 1 (length begun - 1) begun part long in
+    last_put 10 (put_mid 1 (length begun - 1) begun part) both (omega (arith, told.short))

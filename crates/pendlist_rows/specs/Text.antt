@@ -37,7 +37,7 @@ outcome_text Opened = []
 outcome_text (Told r) = row_text r
 outcome_text Bad = 98 ∷ 97 ∷ 100 ∷ 10 ∷ []
 
--- The first bytes are as they were, and the text follows them, up to r; it has at most so many bytes.
-pub record Puts (text : List ℕ) (most at : ℕ) (out : List ℕ) (r : ℕ) (out' : List ℕ) : Type 0 where
-  pub follows : take r out' ≡ take at out ++ text
-  pub short : r ≤ at + most
+-- The text stands at the front, r bytes; it has at most so many.
+pub record Puts (text : List ℕ) (most r : ℕ) (out' : List ℕ) : Type 0 where
+  pub stands : take r out' ≡ text
+  pub short : r ≤ most

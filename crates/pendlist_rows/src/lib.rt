@@ -1,16 +1,15 @@
 // What a line of `pendlist` comes to, and its text in the table (document 01, "Cases").
 #![tactic(auto)]
 
-ghost use Rattle.std.specs.Prelude.{◌+◌, ◌*◌, ◌≤◌, length};
+ghost use Rattle.std.specs.Prelude.{◌*◌, ◌≤◌, length};
 ghost use Rattle.pendlist_rows.specs.Text.{number_text, numbers_text, row_text, outcome_text, Puts};
 
-use areas::write_at;
 use itoa::Buffer;
 
 // A row of the table.
-#[derive(Clone, Copy)]
+#[derive(Clone, Copy, PartialEq, Eq)]
 pub struct Row {
-    // `o` or `d`
+    // the letter itself, as it is printed: `o` or `d`
     pub call: u8,
     // of an offer 0 or the number, of a drain the bodies handed out
     pub answer: u64,
@@ -23,7 +22,7 @@ pub struct Row {
 }
 
 // What a line comes to.
-#[derive(Clone, Copy)]
+#[derive(Clone, Copy, PartialEq, Eq)]
 pub enum Outcome {
     // a cache is open now
     Opened,
@@ -32,57 +31,58 @@ pub enum Outcome {
     Bad,
 }
 
-// Puts a blank and a number into the text from `at` on, and answers where the text goes on.
-fn put_number(out: &mut [u8], at: usize, n: u64) -> usize
-    requires { at + 21 ≤ length out.old }
-    ensures { Puts (number_text n) 21 at out.old result out.new }
+// Puts a blank and a number at the front of the room, and answers how many bytes they are.
+#[tactic(auto, using(crate::proofs::Texts::number_put))]
+fn put_number(out: &mut [u8], n: u64) -> usize
+    requires { 21 ≤ length out.old }
+    ensures { Puts (number_text n) 21 result out.new }
 {
     let mut buffer = Buffer::new();
     let digits = buffer.format(n).as_bytes();
-    out[at] = b' ';
-    write_at(out, at + 1, digits);
-    at + 1 + digits.len()
+    let end = 1 + digits.len();
+    out[0] = b' ';
+    out[1..end].copy_from_slice(digits);
+    end
 }
 
-// Puts numbers into the text from `at` on, a blank before each.
+// Puts numbers at the front of the room, a blank before each.
 #[tactic(auto, using(crate::proofs::Texts::putting))]
-fn put_numbers(out: &mut [u8], at: usize, numbers: &[u64]) -> usize
-    requires { at + 21 * length numbers.now ≤ length out.old }
-    ensures { Puts (numbers_text numbers.now) (21 * length numbers.now) at out.old result
-        out.new }
+fn put_numbers(out: &mut [u8], numbers: &[u64]) -> usize
+    requires { 21 * length numbers.now ≤ length out.old }
+    ensures { Puts (numbers_text numbers.now) (21 * length numbers.now) result out.new }
 {
-    let mut end = at;
+    let mut end = 0;
     for n in numbers {
-        end = put_number(out, end, *n);
+        end += put_number(&mut out[end..], *n);
     }
     end
 }
 
-// Puts a row into the text from `at` on. It has at most 107 bytes: a letter, five times a blank and 20 digits, and a
+// Puts a row at the front of the room. It has at most 107 bytes: a letter, five times a blank and 20 digits, and a
 // newline.
-fn put_row(out: &mut [u8], at: usize, row: Row) -> usize
-    requires { at + 107 ≤ length out.old }
-    ensures { Puts (row_text row) 107 at out.old result out.new }
+#[tactic(auto, using(crate::proofs::Texts::row_put))]
+fn put_row(out: &mut [u8], row: Row) -> usize
+    requires { 107 ≤ length out.old }
+    ensures { Puts (row_text row) 107 result out.new }
 {
     let numbers = [row.answer, row.held, row.bytes, row.cached, row.dropped];
-    out[at] = row.call;
-    let end = put_numbers(out, at + 1, &numbers);
+    out[0] = row.call;
+    let end = 1 + put_numbers(&mut out[1..], &numbers);
     out[end] = b'\n';
     end + 1
 }
 
-// Puts what a line came to into the text from `at` on: a row, `bad`, or nothing.
-#[tactic(auto, using(crate::proofs::Texts::telling))]
-pub fn put_outcome(out: &mut [u8], at: usize, outcome: Outcome) -> usize
-    requires { at + 107 ≤ length out.old }
-    ensures { Puts (outcome_text outcome) 107 at out.old result out.new }
+// Puts what a line came to at the front of the room, and answers how many bytes it is: a row, `bad`, or nothing.
+pub fn put_outcome(out: &mut [u8], outcome: Outcome) -> usize
+    requires { 107 ≤ length out.old }
+    ensures { Puts (outcome_text outcome) 107 result out.new }
 {
     match outcome {
-        Outcome::Opened => at,
-        Outcome::Told(row) => put_row(out, at, row),
+        Outcome::Opened => 0,
+        Outcome::Told(row) => put_row(out, row),
         Outcome::Bad => {
-            write_at(out, at, b"bad\n");
-            at + 4
+            out[..4].copy_from_slice(b"bad\n");
+            4
         }
     }
 }

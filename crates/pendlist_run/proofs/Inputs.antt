@@ -156,7 +156,7 @@ module _ {a₀ a : Areas} {known₀ held₀ known held : Option (List ℕ)} {kep
     unfolding next next_turn
     next_is = rw (inv.good, counted, ← there, inv.opens, inv.holds, inv.bytes_long, inv.words_long)
 
-    pub rows_handed : HandsRows (take r.filled out')
+    pub rows_handed : HandsRows (take r.done.filled out')
     unfolding next
     rows_handed = record {
       first = a₀;
@@ -206,7 +206,7 @@ module _ {a₀ a : Areas} {known₀ held₀ known held : Option (List ℕ)} {kep
     holds_so : view a' ≡ (turns_in a₀ (eqb n kept) turned.reads).after.holds
     holds_so = turn.holds ∙ ap (λ (k : ListState). k.holds) (sym turned.comes)
 
-    bad_so : {bad : Bool} → r.bad ≡ bad → (turns_in a₀ (eqb n kept) turned.reads).after.bad ≡ bad
+    bad_so : {bad : Bool} → r.done.bad ≡ bad → (turns_in a₀ (eqb n kept) turned.reads).after.bad ≡ bad
     bad_so e = ap (λ (k : ListState). k.bad) turned.comes ∙ sym turn.bad_after ∙ e
 
     pub write_failed : {held' : Option (List ℕ)} → RunsInput a₀ known₀ held₀ Write a' known' held'
@@ -220,14 +220,14 @@ module _ {a₀ a : Areas} {known₀ held₀ known held : Option (List ℕ)} {kep
     }
 
     -- all rows of the turn were written
-    module _ (held' : Option (List ℕ)) (wrote : Appends held held' (take r.filled out')) where
+    module _ (held' : Option (List ℕ)) (wrote : Appends held held' (take r.done.filled out')) where
       rows_more : {last : Bool} (t : TurnsEnd a₀ known₀ known' last (turns_in a₀ false inv.reads).rows
           (turn_in (take n buffer₁) kept opened a)) →
           Appends held₀ held' (turns_in a₀ last t.reads).rows
       rows_more t = rw (t.writes, ← turn.rows)
-          (adds_more held₀ held held' (turns_in a₀ false inv.reads).rows (take r.filled out') inv.written wrote)
+          (adds_more held₀ held held' (turns_in a₀ false inv.reads).rows (take r.done.filled out') inv.written wrote)
 
-      pub list_bad : r.bad ≡ true → RunsInput a₀ known₀ held₀ Bad a' known' held'
+      pub list_bad : r.done.bad ≡ true → RunsInput a₀ known₀ held₀ Bad a' known' held'
       list_bad e = record {
         reads = turned.reads;
         last = eqb n kept;
@@ -237,7 +237,7 @@ module _ {a₀ a : Areas} {known₀ held₀ known held : Option (List ℕ)} {kep
         written = rows_more turned;
       }
 
-      pub input_over : r.bad ≡ false → n ≡ kept → RunsInput a₀ known₀ held₀ Input a' known' held'
+      pub input_over : r.done.bad ≡ false → n ≡ kept → RunsInput a₀ known₀ held₀ Input a' known' held'
       input_over good e = record {
         reads = turned.reads;
         last = eqb n kept;
@@ -247,9 +247,9 @@ module _ {a₀ a : Areas} {known₀ held₀ known held : Option (List ℕ)} {kep
         written = rows_more turned;
       }
 
-      pub input_goes_on : r.bad ≡ false → (n ≡ kept → ⊥) → length a'.words ≡ length a.words →
+      pub input_goes_on : r.done.bad ≡ false → (n ≡ kept → ⊥) → length a'.words ≡ length a.words →
           length a'.bytes ≡ length a.bytes → length there' ≡ n →
-          InputAhead a₀ known₀ held₀ r.kept (put_mid 0 n buffer₁ there') r.opened a' known' held'
+          InputAhead a₀ known₀ held₀ r.kept (put_mid 0 n buffer₁ there') r.done.opened a' known' held'
       input_goes_on good more w b same =
           let within : r.kept ≤ length there' = omega (arith, turn.among, counted) in
           let e : eqb n kept ≡ false = ne_eqb n kept more in
@@ -271,15 +271,14 @@ module _ {a₀ a : Areas} {known₀ held₀ known held : Option (List ℕ)} {kep
           }
 
 -- The header's write failed, and no line was carried out.
-pub header_failed : (known held held' : Option (List ℕ)) (words bytes : List ℕ) → 4096 ≡ length words → 16384 ≡ length
-    bytes →
-    RunsProgram known held Write known held'
+pub header_failed : (known held held' : Option (List ℕ)) (words bytes : List ℕ) → length words ≡ 4096 →
+    length bytes ≡ 16384 → RunsProgram known held Write known held'
 unfolding input_turns turns_of joined
 header_failed known held held' words bytes w b = record {
   first = areas_of words bytes;
   last = areas_of words bytes;
-  bytes_long = sym b;
-  words_long = sym w;
+  bytes_long = b;
+  words_long = w;
   begun = held;
   begins = tt;
   runs = record { reads = []; last = false; holds = refl; ends = tt; taken = takes_none known; written = tt };

@@ -82,27 +82,19 @@ fn run_input<R: Read, W: Write>(
     for _ in 0..MOST_READS {
         let n = read_more(reader, buffer, kept);
         let turn = take_turn(words, bytes, &mut buffer[..n], kept, opened, out);
-        if write_rows(writer, &out[..turn.filled]).is_err() {
+        if write_rows(writer, &out[..turn.done.filled]).is_err() {
             return Ended::Write;
         }
-        if turn.bad {
+        if turn.done.bad {
             return Ended::Bad;
         }
         if n == kept {
             return Ended::Input;
         }
         kept = turn.kept;
-        opened = turn.opened;
+        opened = turn.done.opened;
     }
     Ended::Reads
-}
-
-// An array of N equal elements, whose length a proof knows: with a plain `[0; N]` in the generic `run`, what its callee
-// asks of the lengths stayed open.
-fn array_of<T: Copy, const N: usize>(value: T) -> [T; N]
-    ensures { N ≡ length result }
-{
-    [value; N]
 }
 
 // Runs the program: writes the header, and carries out the list.
@@ -110,10 +102,10 @@ pub fn run<R: Read, W: Write>(reader: &mut R, writer: &mut W) -> Ended
     ensures { RunsProgram (R.remaining reader.old) (W.contents writer.old) result
         (R.remaining reader.new) (W.contents writer.new) }
 {
-    let mut words = array_of::<u64, WORDS>(0);
-    let mut bytes = array_of::<u8, BYTES>(0);
-    let mut buffer = array_of::<u8, BUFFER>(0);
-    let mut out = array_of::<u8, ROWS>(0);
+    let mut words = [0; WORDS];
+    let mut bytes = [0; BYTES];
+    let mut buffer = [0; BUFFER];
+    let mut out = [0; ROWS];
     if write_header(writer).is_err() {
         return Ended::Write;
     }

@@ -2,15 +2,17 @@
 use mathlib.Core.Path.{◌≡◌, refl, sym, ap, ◌∙◌}
 use mathlib.Core.Bool.{Bool, true, false}
 use mathlib.Core.List.{List, [], ◌++◌, append_assoc, append-nil}
-use Prim.Native.Nat.{ℕ, ◌+◌, ◌*◌, ◌≤◌, ◌<◌}
+use Prim.Native.Nat.{ℕ, ◌+◌, ◌*◌, ◌-◌, ◌≤◌, ◌<◌}
 use native.Mathlib.Omega.{arith}
 use lib.ListN.{length, take}
 use Rattle.pendlist_input.specs.Input.{lines_of, first_line}
 use Rattle.pendlist_input.proofs.Ends.{first_is_front, NextLine}
 use Rattle.std.proofs.lemmas.List.{nil_from_length}
+use borrow.Rule.Slice.PartMut.{mid_of, put_mid, mid_len, same_len_mid}
 use Rattle.pending_flows.specs.View.{Areas, view}
 use Rattle.pendlist_rows.specs.declared.Outcome.{Outcome}
 use Rattle.pendlist_rows.specs.Text.{outcome_text, Puts}
+use Rattle.pendlist_rows.proofs.Texts.{put_more}
 use Rattle.pendlist_calls.specs.Steps.{Step, RunsLine}
 use Rattle.pendlist_texts.specs.Lists.{is_bad, ListState, line_step, after_lines, rows_of, after_text, rows_of_text}
 use Rattle.pendlist_texts.specs.Lists.{RunsText}
@@ -47,8 +49,10 @@ line_lent opened row end e done = rw (e, first_is_front row) at done
 module _ {text rest : List ℕ} {opened₀ opened : Bool} {a₀ a : Areas} {out₀ out : List ℕ} {filled : ℕ}
     (inv : ListAhead text opened₀ a₀ out₀ rest filled opened a out) where
   -- there is room for a row
-  pub row_fits : 107 * length text ≤ length out₀ → 0 < length rest → filled + 107 ≤ length out
-  row_fits room h = omega (arith, inv.few, inv.out_long)
+  pub row_fits : 107 * length text ≤ length out₀ → 0 < length rest →
+      107 ≤ length (mid_of filled (length out - filled) out)
+  row_fits room h =
+      rw (mid_len filled (length out) out (omega (arith, inv.few, inv.out_long))) (omega (arith, inv.few, inv.out_long))
 
   pub list_over : length rest ≡ 0 →
       RunsText opened₀ text a₀ (record { opened = opened; bad = false; filled = filled }) a out
@@ -67,8 +71,13 @@ module _ {text rest : List ℕ} {opened₀ opened : Bool} {a₀ a : Areas} {out�
 
   -- the next line, with its newline, and the others
   module _ {row rest' : List ℕ} {r : Outcome} {a' : Areas} (next : NextLine rest row rest')
-      (done : RunsLine opened (first_line row) a r a') {filled' : ℕ} {out' : List ℕ}
-      (put : Puts (outcome_text r) 107 filled out filled' out') where
+      (done : RunsLine opened (first_line row) a r a') {more : ℕ} {part : List ℕ}
+      (put : Puts (outcome_text r) 107 more part) (room : 107 * length text ≤ length out₀)
+      (long : length part ≡ length (mid_of filled (length out - filled) out)) where
+    -- the room after it
+    out' : List ℕ
+    out' = put_mid filled (length out - filled) out part
+
     -- the step, in areas of the lengths at the start
     step : Step
     step = line_step (length a₀.bytes) (length a₀.words) (first_line row) opened (view a)
@@ -82,17 +91,23 @@ module _ {text rest : List ℕ} {opened₀ opened : Bool} {a₀ a : Areas} {out�
     holds_right = done.holds ∙ rw (inv.bytes_long, inv.words_long)
 
     -- its row follows those that are there
-    rows_with : (more : List ℕ) → take filled out ++ (outcome_text step.outcome ++ more) ≡ take filled' out' ++ more
-    rows_with more =
-        let follows : take filled' out' ≡ take filled out ++ outcome_text step.outcome =
-        rw (← outcome_right) put.follows in
-        rw (follows, append_assoc)
+    rows_with : (others : List ℕ) →
+        take filled out ++ (outcome_text step.outcome ++ others) ≡ take (filled + more) out' ++ others
+    unfolding out'
+    rows_with others =
+        let left : length part ≡ length out - filled =
+        long ∙ mid_len filled (length out) out (omega arith) in
+        let there : Puts (take filled out) filled filled out = record { stands = refl; short = omega arith } in
+        let both : Puts (take filled out ++ outcome_text r) (filled + 107) (filled + more) out' =
+        put_more out part there put (omega (arith, inv.few, inv.out_long))
+        (omega (arith, put.short, next.shorter, inv.few, inv.out_long)) in
+        rw (both.stands, ← outcome_right, append_assoc)
 
     pub list_goes_on : {bad : Bool} → length a'.words ≡ length a.words →
-        length a'.bytes ≡ length a.bytes → length out' ≡ length out → bad ≡ is_bad r → bad ≡ false →
-        ListAhead text opened₀ a₀ out₀ rest' filled' true a' out'
-    unfolding after_lines rows_of step
-    list_goes_on {bad} w b o tested e =
+        length a'.bytes ≡ length a.bytes → bad ≡ is_bad r → bad ≡ false →
+        ListAhead text opened₀ a₀ out₀ rest' (filled + more) true a' (put_mid filled (length out - filled) out part)
+    unfolding after_lines rows_of step out'
+    list_goes_on {bad} w b tested e =
         let good : is_bad step.outcome ≡ false = rw (← outcome_right) (sym tested ∙ e) in
         record {
           ahead = inv.ahead ∙ rw (next.lines, good, holds_right);
@@ -100,12 +115,13 @@ module _ {text rest : List ℕ} {opened₀ opened : Bool} {a₀ a : Areas} {out�
           few = omega (arith, put.short, next.shorter, inv.few);
           words_long = w ∙ inv.words_long;
           bytes_long = b ∙ inv.bytes_long;
-          out_long = o ∙ inv.out_long;
+          out_long = same_len_mid filled (length out - filled) out part long ∙ inv.out_long;
         }
 
     pub list_ends : {bad : Bool} → bad ≡ is_bad r → bad ≡ true →
-        RunsText opened₀ text a₀ (record { opened = opened; bad = true; filled = filled' }) a' out'
-    unfolding after_lines rows_of step
+        RunsText opened₀ text a₀ (record { opened = opened; bad = true; filled = filled + more }) a'
+        (put_mid filled (length out - filled) out part)
+    unfolding after_lines rows_of step out'
     list_ends {bad} tested e =
         let ends : is_bad step.outcome ≡ true = rw (← outcome_right) (sym tested ∙ e) in
         let all : after_text opened₀ text a₀ ≡ record { opened = opened; bad = true; holds = step.holds } =
@@ -114,6 +130,6 @@ module _ {text rest : List ℕ} {opened₀ opened : Bool} {a₀ a : Areas} {out�
           open_after = sym (ap (λ (k : ListState). k.opened) all);
           bad_after = sym (ap (λ (k : ListState). k.bad) all);
           holds = holds_right ∙ sym (ap (λ (k : ListState). k.holds) all);
-          rows = sym (inv.rows ∙ rw (next.lines, ends) (rows_with [] ∙ append-nil (take filled' out')));
+          rows = sym (inv.rows ∙ rw (next.lines, ends) (rows_with [] ∙ append-nil (take (filled + more) out')));
           short = omega (arith, put.short, next.shorter, inv.few);
         }

@@ -44,7 +44,7 @@ pub fn run_text(
     for row in text.split_inclusive(|byte| *byte == b'\n') {
         let line = &row[..line_end(row)];
         let outcome = run_line(words, bytes, opened, line);
-        filled = put_outcome(out, filled, outcome);
+        filled += put_outcome(&mut out[filled..], outcome);
         if is_bad(outcome) {
             return TextDone {
                 opened,

@@ -6,7 +6,7 @@ use Rattle.std.proofs.lemmas.List.{take-append-le}
 use lib.Seq.{take-add, drop_at, length-take-le}
 use borrow.Rule.Slice.PartMut.{put_mid, post_of, take_put}
 
-takes_more : (k k' k'' : Option (List ℕ)) (b c : List ℕ) → Consumes k k' b → Consumes k' k'' c → Consumes k k'' (b ++ c)
+pub takes_more : (k k' k'' : Option (List ℕ)) (b c : List ℕ) → Consumes k k' b → Consumes k' k'' c → Consumes k k'' (b ++ c)
 takes_more None k' k'' b c p q = tt
 takes_more (Some xs) None k'' b c p q = absurd p
 takes_more (Some xs) (Some ys) None b c p q = absurd q

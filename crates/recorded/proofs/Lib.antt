@@ -1,1 +1,2 @@
 pub mod BytesTaken
+pub mod PartsRun

@@ -1,2 +1,4 @@
-pub mod Progress
+pub mod Digits
+pub mod Numbers
+pub mod Parts
 pub mod Count

@@ -2,7 +2,9 @@
 ghost use Rattle.std.specs.Prelude.{◌≡◌, ◌-◌, ◌≤◌, length, take, drop};
 ghost use Rattle.std.specs.Io.KnownBytes.{Consumes};
 ghost use Rattle.std.specs.List.{copy_within};
+ghost use Rattle.recorded.specs.Parts.{RunsOnParts};
 
+use pendlist_input::whole_lines;
 use std::io::Read;
 
 // The length of a buffer for a part of a text.
@@ -36,11 +38,14 @@ pub fn read_full<R: Read>(reader: &mut R, buffer: &mut [u8]) -> usize
     done
 }
 
+// At most so many buffers are read.
+const BUFFERS: usize = 65536;
+
 // Reads the text into the buffer behind its first `kept` bytes, and answers how many bytes it then has.
 // The whole buffer and a place, no part: what is promised is of the bytes that are kept too.
-pub fn fill<R: Read>(reader: &mut R, buffer: &mut [u8], kept: usize) -> usize
+fn fill<R: Read>(reader: &mut R, buffer: &mut [u8], kept: usize) -> usize
     requires { kept ≤ length buffer.old }
-    ensures within { result ≤ length buffer.old }
+    ensures within { (kept ≤ result) × (result ≤ length buffer.old) }
     ensures front { take kept buffer.new ≡ take kept buffer.old }
     ensures taken { Consumes (R.remaining reader.old) (R.remaining reader.new) (drop kept (take result buffer.new)) }
 {
@@ -49,11 +54,31 @@ pub fn fill<R: Read>(reader: &mut R, buffer: &mut [u8], kept: usize) -> usize
 }
 
 // Moves the bytes from `from` on to the front, and answers how many they are.
-pub fn move_to_front(buffer: &mut [u8], from: usize) -> usize
+// The whole buffer and a place, no part: the bytes move out of it.
+fn move_to_front(buffer: &mut [u8], from: usize) -> usize
     requires { from ≤ length buffer.old }
     ensures count { result ≡ length buffer.old - from }
     ensures moved { buffer.new ≡ copy_within buffer.old from (length buffer.old) 0 }
 {
     buffer.copy_within(from.., 0);
     buffer.len() - from
+}
+
+// Runs the text a part at a time: whole lines, as many as a buffer holds. A line that has no newline, or no room in the
+// buffer, ends it.
+pub fn run_parts<R: Read, F: FnMut(&[u8])>(reader: &mut R, mut run: F)
+    requires { F.IsAlwaysCallable run }
+    ensures { RunsOnParts F.FnMut run (R.remaining reader.old) (R.remaining reader.new) }
+{
+    let mut buffer = [0u8; BUFFER];
+    let mut kept: usize = 0;
+    for _ in 0..BUFFERS {
+        let n = fill(reader, &mut buffer, kept);
+        let lines = whole_lines(&buffer[..n]);
+        if lines == 0 {
+            break;
+        }
+        run(&buffer[..lines]);
+        kept = move_to_front(&mut buffer[..n], lines);
+    }
 }

@@ -10,6 +10,7 @@ use pending_offer::cache;
 use pending_queries::would_accept;
 use pending_resize::resize;
 use pending_restore::restore_replay_suffix;
+use table::ttl_of;
 
 // An answer, as the list has it.
 #[derive(Clone, Copy)]
@@ -39,13 +40,12 @@ fn id_of(n: u64) -> u16 {
 
 // The limits of a row, in document 01's order.
 fn limits_of(args: [u64; 8]) -> PendingFlowsConfig {
-    let ttl = if args[4] == 0 { None } else { Some(args[5]) };
     PendingFlowsConfig {
         max_pending_flows: args[0] as usize,
         max_entries_per_template: args[1] as usize,
         max_entry_size_bytes: args[2] as usize,
         max_total_bytes: args[3] as usize,
-        ttl,
+        ttl: ttl_of(args[4], args[5]),
     }
 }
 

@@ -1,155 +1,105 @@
 // The list of a row against the areas, read here by docs/LAYOUT.md and not by the cache's own code.
 use super::bodies::same_bytes;
+use super::offers::{Offer, Offered};
 use pending_handed_out::{place_handed_out, read_handed_out};
-use recorded::{next_number, number_on};
+use recorded::Numbers;
 
-// The offers whose length and clock reading are kept: lengths from word 0 on, clock readings from here on.
-pub const KEPT: usize = 256;
-
-// The word behind them: how many offers were made since the opening.
-pub const OFFERS: usize = 512;
-
-// Word i from `from` on; 0 past the end.
-fn word(words: &[u64], from: usize, i: usize) -> u64 {
-    words
-        .get(from..)
-        .and_then(|rest| rest.get(i))
-        .copied()
-        .unwrap_or(0)
+// The areas after a call, and the offers that a list speaks of.
+#[derive(Clone, Copy)]
+pub struct Held<'a> {
+    pub words: &'a [u64],
+    pub bytes: &'a [u8],
+    pub offered: &'a Offered,
 }
 
-// Whether offer k was made since the opening, and is kept.
-fn is_kept(offered: &[u64], k: u64) -> bool {
-    k < KEPT as u64 && k < word(offered, OFFERS, 0)
-}
-
-// Where the template records begin: behind the header of 64 words and four words for each body.
-fn records_begin(words: &[u64]) -> Option<usize> {
-    let templates = word(words, 0, 0);
-    let bodies = word(words, 0, 1);
-    let most = templates.checked_mul(bodies)?;
-    if 262144 < most {
-        return None;
+impl Held<'_> {
+    // Word i; 0 past the end.
+    fn word(&self, i: usize) -> u64 {
+        self.words.get(i).copied().unwrap_or(0)
     }
-    Some(64 + most as usize * 4)
-}
 
-// The entry with this label that stands behind j others, in table order.
-fn nth_entry(words: &[u64], label: u64, j: u64) -> Option<&[u64]> {
-    words
-        .get(64..)?
-        .chunks_exact(4)
-        .take(word(words, 0, 10) as usize)
-        .filter(|entry| word(entry, 0, 0) == label)
-        .nth(j as usize)
-}
-
-// Whether the bytes at this place are the body of offer k.
-fn same_place(bytes: &[u8], place: u64, len: u64, k: u64) -> bool {
-    let body = bytes
-        .get(place as usize..)
-        .and_then(|rest| rest.get(..len as usize));
-    body.is_some_and(|body| same_bytes(body, k))
-}
-
-// Whether an entry is offer k: length, clock reading and bytes.
-fn same_entry(bytes: &[u8], entry: &[u64], k: u64, offered: &[u64]) -> bool {
-    let i = k as usize;
-    is_kept(offered, k)
-        && word(entry, 0, 2) == word(offered, 0, i)
-        && word(entry, 0, 3) == word(offered, KEPT, i)
-        && same_place(bytes, word(entry, 0, 1), word(entry, 0, 2), k)
-}
-
-// Where the line goes on behind the next n offers of the list, if they are the bodies with this label.
-fn same_bodies(
-    words: &[u64],
-    bytes: &[u8],
-    label: u64,
-    n: u64,
-    line: &[u8],
-    at: usize,
-    offered: &[u64],
-) -> Option<usize> {
-    let mut next = at;
-    for j in 0..n {
-        let offer = number_on(line, next)?;
-        let entry = nth_entry(words, label, j)?;
-        if !same_entry(bytes, entry, offer.value, offered) {
+    // The records of the templates, least recent first: behind the header of 64 words and four words for each body that
+    // may be held.
+    fn records(&self) -> Option<&[[u64; 8]]> {
+        let held = self.word(9) as usize;
+        if held == 0 {
+            return Some(&[]);
+        }
+        let most = self.word(0).checked_mul(self.word(1))?;
+        if 262144 < most {
             return None;
         }
-        next = offer.next;
+        let (records, _) = self.words.get(64 + most as usize * 4..)?.as_chunks();
+        records.get(..held)
     }
-    Some(next)
-}
 
-// Where the line goes on behind the next template of the list, if it is this record's.
-fn same_template(
-    words: &[u64],
-    bytes: &[u8],
-    record: &[u64],
-    line: &[u8],
-    at: usize,
-    offered: &[u64],
-) -> Option<usize> {
-    let id = next_number(line, at);
-    let count = number_on(line, id.next)?;
-    if word(record, 0, 0) != id.value || word(record, 0, 2) != count.value {
-        return None;
+    // The entry with this label that stands behind j others, in table order.
+    fn nth_entry(&self, label: u64, j: u64) -> Option<&[u64; 4]> {
+        let (entries, _) = self.words.get(64..)?.as_chunks();
+        entries
+            .iter()
+            .take(self.word(10) as usize)
+            .filter(|entry| entry[0] == label)
+            .nth(j as usize)
     }
-    let label = word(record, 0, 1);
-    same_bodies(words, bytes, label, count.value, line, count.next, offered)
-}
 
-// Where the line goes on behind the templates of the list that begins at `at`, if they are those held, least recent
-// first.
-pub fn same_templates(
-    words: &[u64],
-    bytes: &[u8],
-    line: &[u8],
-    at: usize,
-    offered: &[u64],
-) -> Option<usize> {
-    let held = word(words, 0, 9) as usize;
-    if held == 0 {
-        return Some(at);
+    // The bytes of an entry.
+    fn body_of(&self, entry: &[u64; 4]) -> Option<&[u8]> {
+        let [_, place, len, _] = *entry;
+        self.bytes.get(place as usize..)?.get(..len as usize)
     }
-    let records = words
-        .get(records_begin(words)?..)?
-        .get(..held.checked_mul(8)?)?;
-    let mut next = at;
-    for record in records.chunks_exact(8) {
-        next = same_template(words, bytes, record, line, next, offered)?;
+
+    // Whether an entry is offer k: length, clock reading and bytes.
+    fn same_entry(&self, entry: &[u64; 4], k: u64) -> bool {
+        let [_, _, len, clock] = *entry;
+        self.offered.get(k) == Some(Offer { len, clock })
+            && self.body_of(entry).is_some_and(|body| same_bytes(body, k))
     }
-    Some(next)
-}
 
-// Whether handed-out body j is that of offer k, by its length as placed and as read, and by its bytes.
-fn same_handed(words: &[u64], bytes: &[u8], j: usize, k: u64, offered: &[u64]) -> bool {
-    let Ok(body) = place_handed_out(words, bytes, j) else {
-        return false;
-    };
-    let len = word(offered, 0, k as usize);
-    let read = read_handed_out(words, bytes, j);
-    is_kept(offered, k) && body.len as u64 == len && read.len() as u64 == len && same_bytes(read, k)
-}
-
-// Where the line goes on behind the next n offers of the list, if they are the handed-out bodies, oldest first.
-pub fn same_handed_out(
-    words: &[u64],
-    bytes: &[u8],
-    n: usize,
-    line: &[u8],
-    at: usize,
-    offered: &[u64],
-) -> Option<usize> {
-    let mut next = at;
-    for j in 0..n {
-        let offer = number_on(line, next)?;
-        if !same_handed(words, bytes, j, offer.value, offered) {
-            return None;
+    // Whether the next n offers of the list are the bodies with this label.
+    fn same_bodies(&self, label: u64, n: u64, list: &mut Numbers<'_>) -> bool {
+        for j in 0..n {
+            let (Some(k), Some(entry)) = (list.next(), self.nth_entry(label, j)) else {
+                return false;
+            };
+            if !self.same_entry(entry, k) {
+                return false;
+            }
         }
-        next = offer.next;
+        true
     }
-    Some(next)
+
+    // Whether the next template of the list is this record's.
+    fn same_template(&self, record: &[u64; 8], list: &mut Numbers<'_>) -> bool {
+        let [id, label, count, ..] = *record;
+        list.next() == Some(id)
+            && list.next() == Some(count)
+            && self.same_bodies(label, count, list)
+    }
+
+    // Whether the next templates of the list are those held, least recent first.
+    pub fn same_templates(&self, list: &mut Numbers<'_>) -> bool {
+        self.records().is_some_and(|records| {
+            records
+                .iter()
+                .all(|record| self.same_template(record, list))
+        })
+    }
+
+    // Whether handed-out body j is that of offer k, by its length as placed and as read, and by its bytes.
+    fn same_handed(&self, j: usize, k: u64) -> bool {
+        let (Ok(placed), Some(offer)) = (
+            place_handed_out(self.words, self.bytes, j),
+            self.offered.get(k),
+        ) else {
+            return false;
+        };
+        let read = read_handed_out(self.words, self.bytes, j);
+        [placed.len as u64, read.len() as u64] == [offer.len; 2] && same_bytes(read, k)
+    }
+
+    // Whether the next n offers of the list are the handed-out bodies, oldest first.
+    pub fn same_handed_out(&self, n: usize, list: &mut Numbers<'_>) -> bool {
+        (0..n).all(|j| list.next().is_some_and(|k| self.same_handed(j, k)))
+    }
 }

@@ -5,8 +5,10 @@
 mod bodies;
 mod calls;
 mod held;
+mod offers;
 mod rows;
 
 pub use calls::{Answered, run_call};
-pub use held::{KEPT, OFFERS, same_handed_out, same_templates};
+pub use held::Held;
+pub use offers::{Offer, Offered};
 pub use rows::{Call, Row, read_row};

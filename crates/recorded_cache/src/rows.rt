@@ -2,29 +2,26 @@
 //     call arguments number value templates bodies bytes cached dropped handed listed list
 ghost use Rattle.std.specs.Prelude.{◌≤◌};
 
-use recorded::{Number, next_number, number_on};
+use recorded::Numbers;
 
 // A row up to its list.
 #[derive(Clone, Copy)]
-pub struct Row {
+pub struct Row<'a> {
     // none where no call has the row's number
     pub call: Option<Call>,
     pub args: [u64; 8],
     // number, value, and six figures
     pub told: [u64; 8],
-    // 1 where a list follows, and where it begins; none where the line is cut short before
-    pub listed: Option<Number>,
+    // 1 where a list follows; none where the line is cut short before
+    pub listed: Option<u64>,
+    pub list: Numbers<'a>,
 }
 
-// Fills the room with numbers of the line, and answers where the line goes on.
-fn read_numbers(line: &[u8], at: usize, room: &mut [u64]) -> usize {
-    let mut next = at;
-    for value in room.iter_mut() {
-        let read = next_number(line, next);
-        *value = read.value;
-        next = read.next;
+// Fills the room with the next numbers of a line; where it is cut short, the rest of the room stays as it is.
+fn fill(room: &mut [u64], numbers: &mut Numbers<'_>) {
+    for (value, number) in room.iter_mut().zip(numbers) {
+        *value = number;
     }
-    next
 }
 
 // A call of a list.
@@ -78,19 +75,21 @@ fn argument_count(call: Option<Call>) -> usize
 }
 
 // Reads the row of a line.
-pub fn read_row(line: &[u8]) -> Row {
-    let number = next_number(line, 0);
-    let call = Call::try_from(number.value).ok();
+pub fn read_row(line: &[u8]) -> Row<'_> {
+    let mut numbers = Numbers { rest: line };
+    let call = numbers
+        .next()
+        .and_then(|number| Call::try_from(number).ok());
     let mut args = [0u64; 8];
     let mut told = [0u64; 8];
     let n = argument_count(call);
-    let after_arguments = read_numbers(line, number.next, &mut args[..n]);
-    let after_answer = read_numbers(line, after_arguments, &mut told);
-    let listed = number_on(line, after_answer);
+    fill(&mut args[..n], &mut numbers);
+    fill(&mut told, &mut numbers);
     Row {
         call,
         args,
         told,
-        listed,
+        listed: numbers.next(),
+        list: numbers,
     }
 }

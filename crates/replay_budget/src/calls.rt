@@ -25,10 +25,7 @@ fn done(values: [u64; 3]) -> Told {
 }
 
 // An answer that has no values.
-fn numbered<E>(answer: Result<(), E>) -> Told
-where
-    u32: From<E>,
-{
+fn numbered<E: Into<u32>>(answer: Result<(), E>) -> Told {
     Told {
         number: number_of(answer),
         values: [0; 3],

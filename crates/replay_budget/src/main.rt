@@ -11,7 +11,7 @@ use budget_words::write_budget;
 use calls::{Told, run_call};
 use output_budget::DecodedOutputBudget;
 use output_preflight::{FieldValues, PayloadBytes};
-use recorded::{BUFFER, BUFFERS, Tally, fill, goes_on, move_to_front, number_on, whole_lines};
+use recorded::{Numbers, Tally, run_parts};
 
 // The rows run so far, and the budget that the next call goes on with.
 #[derive(Clone, Copy)]
@@ -22,17 +22,15 @@ struct Replay {
 
 // The numbers of a row, if it has as many and no more.
 fn read_row(row: &[u8]) -> Option<[u64; 19]> {
-    let mut numbers = [0; 19];
-    let mut at = 0;
-    for number in &mut numbers {
-        let read = number_on(row, at)?;
-        *number = read.value;
-        at = read.next;
+    let mut numbers = Numbers { rest: row };
+    let mut values = [0; 19];
+    for value in &mut values {
+        *value = numbers.next()?;
     }
-    if goes_on(row, at) {
+    if numbers.next().is_some() {
         return None;
     }
-    Some(numbers)
+    Some(values)
 }
 
 // Whether the answer and the budget after it are the recorded ones.
@@ -81,18 +79,7 @@ fn run_wrong_rows(rt: &impl Print) {
 
 fn main(rt: HostRuntime) {
     run_wrong_rows(&rt);
-    let mut reader = rt.reader();
-    let mut buffer = [0u8; BUFFER];
     let mut replay = begin();
-    let mut kept = 0;
-    for _ in 0..BUFFERS {
-        let n = fill(&mut reader, &mut buffer, kept);
-        let lines = whole_lines(&buffer[..n]);
-        if lines == 0 {
-            break;
-        }
-        run_rows(&rt, &buffer[..lines], &mut replay);
-        kept = move_to_front(&mut buffer[..n], lines);
-    }
+    run_parts(&mut rt.reader(), |text| run_rows(&rt, text, &mut replay));
     replay.tally.print(&rt);
 }

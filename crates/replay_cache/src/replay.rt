@@ -1,18 +1,15 @@
 // Rows run on the areas, one after another.
-ghost use Rattle.std.specs.Prelude.{◌≤◌};
-
 use super::compare::{Differs, compare, is_same};
 use recorded::Tally;
-use recorded_cache::{Answered, Call, KEPT, OFFERS, Row, read_row, run_call};
+use recorded_cache::{Answered, Call, Held, Offer, Offered, Row, read_row, run_call};
 
-// The rows and lists run so far, and the lengths of the areas and the offers of the list that is open.
+// The rows and lists run so far, and the lengths of the areas of the list that is open.
 #[derive(Clone, Copy)]
 pub struct Replay {
     pub tally: Tally,
     pub lists: u64,
     pub bytes: usize,
     pub words: usize,
-    pub offers: u64,
 }
 
 // Nothing run, and nothing open.
@@ -22,49 +19,36 @@ pub fn begin() -> Replay {
         lists: 0,
         bytes: 0,
         words: 0,
-        offers: 0,
     }
 }
 
 // What a row begins with: an opening says the lengths of the areas, every other call goes on with those of its list.
-fn lent_for(row: Row, replay: Replay) -> Replay {
+fn lent_for(row: Row<'_>, replay: Replay) -> Replay {
+    if row.call != Some(Call::Open) {
+        return replay;
+    }
+    Replay {
+        lists: replay.lists.saturating_add(1),
+        bytes: row.args[6] as usize,
+        words: row.args[7] as usize,
+        ..replay
+    }
+}
+
+// Whether a row is an opening that was refused: it leaves the list before it open.
+fn is_refused_opening(row: Row<'_>, got: Option<Answered>) -> bool {
+    row.call == Some(Call::Open) && got.is_none_or(|got| got.number != 0)
+}
+
+// Counts the offers after a row: an accepted opening begins anew.
+fn count_offers(offered: &mut Offered, row: Row<'_>, got: Option<Answered>) {
     match row.call {
-        Some(Call::Open) => Replay {
-            lists: replay.lists.saturating_add(1),
-            bytes: row.args[6] as usize,
-            words: row.args[7] as usize,
-            offers: 0,
-            ..replay
-        },
-        Some(Call::Offer) => Replay {
-            offers: replay.offers.saturating_add(1),
-            ..replay
-        },
-        _ => replay,
-    }
-}
-
-// A refused opening leaves the list before it open.
-fn open_after(row: Row, got: Option<Answered>, before: Replay, lent: Replay) -> Replay {
-    if row.call == Some(Call::Open) && got.is_none_or(|got| got.number != 0) {
-        before
-    } else {
-        lent
-    }
-}
-
-// Writes a word, where there is one.
-fn put(kept: &mut [u64], at: usize, value: u64) {
-    if let Some(word) = kept.get_mut(at) {
-        *word = value;
-    }
-}
-
-// Keeps length and clock reading of an offer, where it is one of the first.
-fn keep_offer(offered: &mut [u64], row: Row, k: u64) {
-    if row.call == Some(Call::Offer) && k < KEPT as u64 {
-        put(offered, k as usize, row.args[1]);
-        put(offered, KEPT + k as usize, row.args[2]);
+        Some(Call::Open) if !is_refused_opening(row, got) => *offered = Offered::new(),
+        Some(Call::Offer) => offered.push(Offer {
+            len: row.args[1],
+            clock: row.args[2],
+        }),
+        _ => {}
     }
 }
 
@@ -72,28 +56,33 @@ fn keep_offer(offered: &mut [u64], row: Row, k: u64) {
 fn run_lent(
     words: &mut [u64],
     bytes: &mut [u8],
-    row: Row,
+    row: Row<'_>,
     lent: Replay,
     k: u64,
 ) -> Option<Answered> {
-    let w = lent.words.min(words.len());
-    let b = lent.bytes.min(bytes.len());
-    run_call(&mut words[..w], &mut bytes[..b], row.call, row.args, k)
+    let (words, _) = words.split_at_mut(lent.words.min(words.len()));
+    let (bytes, _) = bytes.split_at_mut(lent.bytes.min(bytes.len()));
+    run_call(words, bytes, row.call, row.args, k)
 }
 
 // Compares a row with the lent part of the areas.
 fn compare_lent(
-    words: &[u64],
-    bytes: &[u8],
-    line: &[u8],
-    row: Row,
+    held: Held<'_>,
+    row: Row<'_>,
     got: Option<Answered>,
     lent: Replay,
-    offered: &[u64],
 ) -> Result<(), Differs> {
-    let w = lent.words.min(words.len());
-    let b = lent.bytes.min(bytes.len());
-    compare(&words[..w], &bytes[..b], line, row, got, offered)
+    let (words, _) = held.words.split_at(lent.words.min(held.words.len()));
+    let (bytes, _) = held.bytes.split_at(lent.bytes.min(held.bytes.len()));
+    compare(
+        Held {
+            words,
+            bytes,
+            ..held
+        },
+        row,
+        got,
+    )
 }
 
 // Runs the row of a line.
@@ -101,17 +90,25 @@ fn run_row(
     rt: &impl Print,
     words: &mut [u64],
     bytes: &mut [u8],
-    offered: &mut [u64],
+    offered: &mut Offered,
     line: &[u8],
     before: Replay,
 ) -> Replay {
     let row = read_row(line);
     let lent = lent_for(row, before);
-    let got = run_lent(words, bytes, row, lent, before.offers);
-    keep_offer(offered, row, before.offers);
-    let open = open_after(row, got, before, lent);
-    put(offered, OFFERS, open.offers);
-    let compared = compare_lent(words, bytes, line, row, got, open, offered);
+    let got = run_lent(words, bytes, row, lent, offered.made);
+    count_offers(offered, row, got);
+    let open = if is_refused_opening(row, got) {
+        before
+    } else {
+        lent
+    };
+    let held = Held {
+        words,
+        bytes,
+        offered,
+    };
+    let compared = compare_lent(held, row, got, open);
     Replay {
         tally: open.tally.with_row(rt, is_same(rt, compared)),
         ..open
@@ -123,13 +120,12 @@ pub fn run_rows(
     rt: &impl Print,
     words: &mut [u64],
     bytes: &mut [u8],
-    offered: &mut [u64],
+    offered: &mut Offered,
     text: &[u8],
     replay: Replay,
 ) -> Replay {
     let mut replay = replay;
     for line in text.split_inclusive(|byte| *byte == b'\n') {
-        let line = line.strip_suffix(b"\n").unwrap_or(line);
         replay = run_row(rt, words, bytes, offered, line, replay);
     }
     replay

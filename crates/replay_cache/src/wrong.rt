@@ -1,11 +1,12 @@
 // Rows that are wrong on purpose, one part of each: a comparison that notices nothing would show.
 use super::replay::{begin, print_replay, run_rows};
+use recorded_cache::Offered;
 
 // A wrong number, a wrong value, and each figure wrong; a row cut short, and a row that goes on.
 fn run_wrong_answers(rt: &impl Print) {
     let mut words = [0u64; 160];
     let mut bytes = [0u8; 64];
-    let mut offered = [0u64; 513];
+    let mut offered = Offered::new();
     let rows = b"0 2 3 8 32 0 0 64 160 0 0 0 0 0 0 0 0 1\n\
         1 300 4 0 20 0 1 1 4 1 0 0 1 300 1 0\n\
         2 300 0 0 2 0 0 0 1 0 1 1 0\n\
@@ -29,7 +30,7 @@ fn run_wrong_answers(rt: &impl Print) {
 fn run_wrong_lists(rt: &impl Print) {
     let mut words = [0u64; 160];
     let mut bytes = [0u8; 64];
-    let mut offered = [0u64; 513];
+    let mut offered = Offered::new();
     let rows = b"0 2 3 8 32 0 0 64 160 0 0 0 0 0 0 0 0 1\n\
         1 300 4 0 0 0 1 1 4 1 0 0 1 300 1 0\n\
         6 300 1 0 0 1 1 1 4 1 0 0 1 300 1\n\

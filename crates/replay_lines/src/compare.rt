@@ -1,79 +1,85 @@
-// What a line says or comes to, set against the text of a row.
+// What the text of a row expects of a line, set against what the line says or comes to.
 use config::PendingFlowsConfig;
 use pendlist_commands::{Command, DrainLine, OfferLine};
 use pendlist_rows::{Outcome, Row};
-use recorded::next_number;
+use recorded::Numbers;
 
-// A text's first numbers.
+// A text's first numbers; 0 for those that it lacks.
 fn numbers_in(text: &[u8]) -> [u64; 5] {
     let mut values = [0u64; 5];
-    let mut next: usize = 0;
-    for value in values.iter_mut() {
-        let read = next_number(text, next);
-        *value = read.value;
-        next = read.next;
+    for (value, number) in values.iter_mut().zip(Numbers { rest: text }) {
+        *value = number;
     }
     values
 }
 
-// Whether the text has this byte.
-fn has(text: &[u8], byte: u8) -> bool {
-    text.contains(&byte)
-}
-
-fn same_ttl(ttl: Option<u64>, expected: &[u8], value: u64) -> bool {
-    match ttl {
-        None => has(expected, b'-'),
-        Some(limit) => !has(expected, b'-') && limit == value,
+// The limits in a text; with `-` there is no TTL.
+fn limits_in(text: &[u8]) -> PendingFlowsConfig {
+    let [templates, entries, size, total, ttl] = numbers_in(text);
+    PendingFlowsConfig {
+        max_pending_flows: templates as usize,
+        max_entries_per_template: entries as usize,
+        max_entry_size_bytes: size as usize,
+        max_total_bytes: total as usize,
+        ttl: if text.contains(&b'-') {
+            None
+        } else {
+            Some(ttl)
+        },
     }
 }
 
-fn same_limits(config: PendingFlowsConfig, expected: &[u8]) -> bool {
-    let n = numbers_in(expected);
-    let limits = [
-        config.max_pending_flows as u64,
-        config.max_entries_per_template as u64,
-        config.max_entry_size_bytes as u64,
-        config.max_total_bytes as u64,
-    ];
-    limits == [n[0], n[1], n[2], n[3]] && same_ttl(config.ttl, expected, n[4])
+// What a text says, if it says a command: a letter, and numbers behind it.
+fn command_in(text: &[u8]) -> Option<Command> {
+    let (letter, rest) = text.split_first()?;
+    let [id, second, third, _, _] = numbers_in(rest);
+    match letter {
+        b'c' => Some(Command::Open(limits_in(rest))),
+        b'o' => Some(Command::Offer(OfferLine {
+            id: u16::try_from(id).ok()?,
+            len: u16::try_from(second).ok()?,
+            clock: third,
+        })),
+        b'd' => Some(Command::Drain(DrainLine {
+            id: u16::try_from(id).ok()?,
+            clock: second,
+        })),
+        _ => None,
+    }
 }
 
-fn same_offer(offer: OfferLine, expected: &[u8]) -> bool {
-    let n = numbers_in(expected);
-    [offer.id as u64, offer.len as u64, offer.clock] == [n[0], n[1], n[2]]
+// What a text says, if it says what a line comes to: `bad`, `open`, or a row of the table.
+fn outcome_in(text: &[u8]) -> Option<Outcome> {
+    match text.trim_ascii_start() {
+        b"bad" => Some(Outcome::Bad),
+        b"open" => Some(Outcome::Opened),
+        // no row of the table has a letter of these two
+        text if text.contains(&b'b') || text.contains(&b'p') => None,
+        text => {
+            let (call, rest) = text.split_first()?;
+            let [answer, held, bytes, cached, dropped] = numbers_in(rest);
+            Some(Outcome::Told(Row {
+                call: *call,
+                answer,
+                held,
+                bytes,
+                cached,
+                dropped,
+            }))
+        }
+    }
 }
 
-fn same_drain(drain: DrainLine, expected: &[u8]) -> bool {
-    let n = numbers_in(expected);
-    [drain.id as u64, drain.clock] == [n[0], n[1]]
-}
-
-// Whether a line says what is expected: the letter is in the text, and the numbers follow it.
+// Whether a line says what is expected: `bad`, or a command.
 pub fn same_reading(line: Option<Command>, expected: &[u8]) -> bool {
     match line {
-        Some(Command::Open(config)) => has(expected, b'c') && same_limits(config, expected),
-        Some(Command::Offer(offer)) => has(expected, b'o') && same_offer(offer, expected),
-        Some(Command::Drain(drain)) => {
-            // `bad` has this letter too
-            !has(expected, b'b') && has(expected, b'd') && same_drain(drain, expected)
-        }
-        None => has(expected, b'b'),
+        // a row that has this letter says `bad`
+        Some(_) => !expected.contains(&b'b') && line == command_in(expected),
+        None => expected == b"bad".as_slice(),
     }
 }
 
-fn same_figures(row: Row, expected: &[u8]) -> bool {
-    let figures = [row.answer, row.held, row.bytes, row.cached, row.dropped];
-    has(expected, row.call) && figures == numbers_in(expected)
-}
-
-// Whether a line comes to what is expected. `bad` and `open` have letters that no row has: b and p.
+// Whether a line comes to what is expected.
 pub fn same_outcome(outcome: Outcome, expected: &[u8]) -> bool {
-    match outcome {
-        Outcome::Opened => has(expected, b'p'),
-        Outcome::Told(row) => {
-            !has(expected, b'b') && !has(expected, b'p') && same_figures(row, expected)
-        }
-        Outcome::Bad => has(expected, b'b'),
-    }
+    outcome_in(expected) == Some(outcome)
 }

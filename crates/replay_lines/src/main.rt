@@ -46,11 +46,11 @@ fn same(expected: &[u8], line: &[u8]) -> bool {
 
 // A row is wrong where it has no bar.
 fn same_row(row: &[u8]) -> bool {
-    let Some(bar) = row.iter().position(|byte| *byte == b'|') else {
+    let mut parts = row.splitn(2, |byte| *byte == b'|');
+    let (Some(expected), Some(line)) = (parts.next(), parts.next()) else {
         return false;
     };
-    let from = bar + 1;
-    same(&row[..bar], &row[from..])
+    same(expected, line)
 }
 
 // Runs the rows of a text.

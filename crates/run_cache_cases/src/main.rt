@@ -13,141 +13,125 @@ use pending_queries::{take_figures, would_accept};
 use pending_resize::resize;
 use pending_restore::restore_replay_suffix;
 
-// Prints a blank and a number.
-fn print_value(rt: &impl Print, n: u64) {
-    let _ = print!(rt; " {n}");
-}
+// The offered bodies are parts of these bytes, each of which is its place.
+const BODY: [u8; 16] = [0, 1, 2, 3, 4, 5, 6, 7, 8, 9, 10, 11, 12, 13, 14, 15];
 
 // Prints a call's number: 0, or that of its refusal.
 fn print_number<E: Into<u32>>(rt: &impl Print, answer: Result<(), E>) {
-    print_value(rt, number_of(answer) as u64);
+    let _ = print!(rt; " {}", number_of(answer));
 }
 
 // Prints 0 and a count of bodies, or the number of the refusal.
 fn print_count<E: Into<u32>>(rt: &impl Print, answer: Result<usize, E>) {
-    match answer {
-        Ok(count) => {
-            print_value(rt, 0);
-            print_value(rt, count as u64);
+    let _ = match answer {
+        Ok(count) => print!(rt; " 0 {count}"),
+        Err(refusal) => print!(rt; " {}", number_of(Err(refusal))),
+    };
+}
+
+// Prints the name of a call that takes limits, and these, but the TTL.
+fn print_limits(rt: &impl Print, call: &str, config: PendingFlowsConfig) {
+    let templates = config.max_pending_flows;
+    let bodies = config.max_entries_per_template;
+    let entry = config.max_entry_size_bytes;
+    let total = config.max_total_bytes;
+    let _ = print!(rt; "{call} {templates} {bodies} {entry} {total}:");
+}
+
+// The two areas of a cache.
+#[derive(Drop)]
+struct Areas {
+    words: [u64; 132],
+    bytes: [u8; 16],
+}
+
+impl Areas {
+    // Areas that hold no cache.
+    fn new() -> Self {
+        Areas {
+            words: [0; 132],
+            bytes: [0; 16],
         }
-        Err(refusal) => print_number(rt, Err(refusal)),
     }
-}
 
-// Ends a line with the figures.
-fn end_line(rt: &impl Print, words: &[u64], bytes: &[u8]) {
-    let _ = rt.print(" |");
-    match take_figures(words, bytes) {
-        Ok(figures) => {
-            print_value(rt, figures.templates);
-            print_value(rt, figures.bodies);
-            print_value(rt, figures.bytes);
-            print_value(rt, figures.cached);
-            print_value(rt, figures.dropped);
-            print_value(rt, figures.handed);
+    // Ends a line with the figures.
+    fn end_line(&self, rt: &impl Print) {
+        let _ = match take_figures(&self.words, &self.bytes) {
+            Ok(now) => println!(rt;
+                " | {} {} {} {} {} {}",
+                now.templates, now.bodies, now.bytes, now.cached, now.dropped, now.handed
+            ),
+            Err(damaged) => println!(rt; " | {}", u32::from(damaged)),
+        };
+    }
+
+    // New areas with a cache of these limits.
+    fn opened(rt: &impl Print, config: PendingFlowsConfig) -> Self {
+        let mut areas = Areas::new();
+        print_limits(rt, "open", config);
+        print_number(rt, open(config, &mut areas.words, &areas.bytes));
+        areas.end_line(rt);
+        areas
+    }
+
+    // Offers a body.
+    fn offer(&mut self, rt: &impl Print, id: u16, body: &[u8], clock: u64) {
+        let _ = print!(rt; "offer {id} {} {clock}:", body.len());
+        print_number(rt, cache(&mut self.words, &mut self.bytes, id, body, clock));
+        self.end_line(rt);
+    }
+
+    // Asks whether a body would be accepted.
+    fn ask(&self, rt: &impl Print, id: u16, len: usize, clock: u64) {
+        let _ = print!(rt; "would_accept {id} {len} {clock}:");
+        let _ = match would_accept(&self.words, &self.bytes, id, len, clock) {
+            Ok(true) => rt.print(" yes"),
+            Ok(false) => rt.print(" no"),
+            Err(damaged) => print!(rt; " {}", u32::from(damaged)),
+        };
+        self.end_line(rt);
+    }
+
+    // Drains an id.
+    fn drain(&mut self, rt: &impl Print, id: u16, clock: u64) {
+        let _ = print!(rt; "drain {id} {clock}:");
+        print_count(rt, drain(&mut self.words, &self.bytes, id, clock));
+        self.end_line(rt);
+    }
+
+    // Prints the length of handed-out body k, its first byte and its last.
+    fn read(&self, rt: &impl Print, k: usize) {
+        let body = read_handed_out(&self.words, &self.bytes, k);
+        let _ = print!(rt; "handed out {k}: {}", body.len());
+        if let (Some(first), Some(last)) = (body.first(), body.last()) {
+            let _ = print!(rt; " {first} {last}");
         }
-        Err(damaged) => print_number(rt, Err(damaged)),
+        self.end_line(rt);
     }
-    let _ = rt.println("");
-}
 
-// Opens a cache and prints its limits, but the TTL.
-fn begin(rt: &impl Print, words: &mut [u64], bytes: &[u8], config: PendingFlowsConfig) {
-    let _ = rt.print("open");
-    print_value(rt, config.max_pending_flows as u64);
-    print_value(rt, config.max_entries_per_template as u64);
-    print_value(rt, config.max_entry_size_bytes as u64);
-    print_value(rt, config.max_total_bytes as u64);
-    let _ = rt.print(":");
-    print_number(rt, open(config, words, bytes));
-    end_line(rt, words, bytes);
-}
-
-// Offers so many bytes.
-fn offer(rt: &impl Print, words: &mut [u64], bytes: &mut [u8], id: u16, body: &[u8], clock: u64) {
-    let _ = rt.print("offer");
-    print_value(rt, id as u64);
-    print_value(rt, body.len() as u64);
-    print_value(rt, clock);
-    let _ = rt.print(":");
-    print_number(rt, cache(words, bytes, id, body, clock));
-    end_line(rt, words, bytes);
-}
-
-// Asks whether a body would be accepted: 1 for yes.
-fn ask(rt: &impl Print, words: &[u64], bytes: &[u8], id: u16, len: usize, clock: u64) {
-    let _ = rt.print("would_accept");
-    print_value(rt, id as u64);
-    print_value(rt, len as u64);
-    print_value(rt, clock);
-    let _ = rt.print(":");
-    match would_accept(words, bytes, id, len, clock) {
-        Ok(true) => {
-            let _ = rt.print(" yes");
-        }
-        Ok(false) => {
-            let _ = rt.print(" no");
-        }
-        Err(damaged) => print_number(rt, Err(damaged)),
+    // Puts the last n bodies back.
+    fn put_back(&mut self, rt: &impl Print, id: u16, n: usize) {
+        let _ = print!(rt; "put back {id} {n}:");
+        print_number(
+            rt,
+            restore_replay_suffix(&mut self.words, &self.bytes, id, n),
+        );
+        self.end_line(rt);
     }
-    end_line(rt, words, bytes);
-}
 
-// Drains an id.
-fn take(rt: &impl Print, words: &mut [u64], bytes: &[u8], id: u16, clock: u64) {
-    let _ = rt.print("drain");
-    print_value(rt, id as u64);
-    print_value(rt, clock);
-    let _ = rt.print(":");
-    print_count(rt, drain(words, bytes, id, clock));
-    end_line(rt, words, bytes);
-}
-
-// Prints a body's length, its first byte and its last.
-fn print_ends(rt: &impl Print, body: &[u8]) {
-    print_value(rt, body.len() as u64);
-    if let (Some(first), Some(last)) = (body.first(), body.last()) {
-        print_value(rt, u64::from(*first));
-        print_value(rt, u64::from(*last));
+    // Resizes the cache.
+    fn resize(&mut self, rt: &impl Print, config: PendingFlowsConfig) {
+        print_limits(rt, "resize", config);
+        print_count(rt, resize(&mut self.words, &mut self.bytes, config));
+        self.end_line(rt);
     }
-}
 
-// Prints handed-out body k.
-fn read(rt: &impl Print, words: &[u64], bytes: &[u8], k: usize) {
-    let _ = rt.print("handed out");
-    print_value(rt, k as u64);
-    let _ = rt.print(":");
-    print_ends(rt, read_handed_out(words, bytes, k));
-    end_line(rt, words, bytes);
-}
-
-// Puts the last n bodies back.
-fn put_back(rt: &impl Print, words: &mut [u64], bytes: &[u8], id: u16, n: usize) {
-    let _ = rt.print("put back");
-    print_value(rt, id as u64);
-    print_value(rt, n as u64);
-    let _ = rt.print(":");
-    print_number(rt, restore_replay_suffix(words, bytes, id, n));
-    end_line(rt, words, bytes);
-}
-
-// Resizes the cache and prints the new limits, but the TTL.
-fn change_limits(rt: &impl Print, words: &mut [u64], bytes: &mut [u8], config: PendingFlowsConfig) {
-    let _ = rt.print("resize");
-    print_value(rt, config.max_pending_flows as u64);
-    print_value(rt, config.max_entries_per_template as u64);
-    print_value(rt, config.max_entry_size_bytes as u64);
-    print_value(rt, config.max_total_bytes as u64);
-    let _ = rt.print(":");
-    print_count(rt, resize(words, bytes, config));
-    end_line(rt, words, bytes);
-}
-
-// Clears the cache.
-fn empty(rt: &impl Print, words: &mut [u64], bytes: &[u8]) {
-    let _ = rt.print("clear:");
-    print_number(rt, clear(words, bytes));
-    end_line(rt, words, bytes);
+    // Clears the cache.
+    fn clear(&mut self, rt: &impl Print) {
+        let _ = rt.print("clear:");
+        print_number(rt, clear(&mut self.words, &self.bytes));
+        self.end_line(rt);
+    }
 }
 
 // Limits in document 01's order.
@@ -169,137 +153,112 @@ fn limits(
 
 // Document 01's first case, to its last figure; then what was handed out is read, and put back.
 fn eviction_and_age(rt: &impl Print) {
-    let mut words = [0u64; 132];
-    let mut bytes = [0u8; 16];
-    let body = [0u8, 1, 2, 3, 4, 5, 6, 7, 8, 9, 10, 11, 12, 13, 14, 15];
-    begin(rt, &mut words, &bytes, limits(2, 2, 10, 16, Some(100)));
-    offer(rt, &mut words, &mut bytes, 300, &body[..6], 0);
-    offer(rt, &mut words, &mut bytes, 301, &body[..8], 1);
-    offer(rt, &mut words, &mut bytes, 300, &body[..4], 2);
-    offer(rt, &mut words, &mut bytes, 302, &body[..4], 3);
-    offer(rt, &mut words, &mut bytes, 300, &body[..1], 4);
-    offer(rt, &mut words, &mut bytes, 300, &body[..1], 5);
-    ask(rt, &words, &bytes, 300, 1, 102);
-    offer(rt, &mut words, &mut bytes, 300, &body[5..6], 102);
-    take(rt, &mut words, &bytes, 300, 104);
-    read(rt, &words, &bytes, 0);
-    read(rt, &words, &bytes, 1);
-    put_back(rt, &mut words, &bytes, 301, 1);
-    put_back(rt, &mut words, &bytes, 300, 2);
-    put_back(rt, &mut words, &bytes, 300, 0);
-    put_back(rt, &mut words, &bytes, 300, 1);
+    let mut areas = Areas::opened(rt, limits(2, 2, 10, 16, Some(100)));
+    areas.offer(rt, 300, &BODY[..6], 0);
+    areas.offer(rt, 301, &BODY[..8], 1);
+    areas.offer(rt, 300, &BODY[..4], 2);
+    areas.offer(rt, 302, &BODY[..4], 3);
+    areas.offer(rt, 300, &BODY[..1], 4);
+    areas.offer(rt, 300, &BODY[..1], 5);
+    areas.ask(rt, 300, 1, 102);
+    areas.offer(rt, 300, &BODY[5..6], 102);
+    areas.drain(rt, 300, 104);
+    areas.read(rt, 0);
+    areas.read(rt, 1);
+    areas.put_back(rt, 301, 1);
+    areas.put_back(rt, 300, 2);
+    areas.put_back(rt, 300, 0);
+    areas.put_back(rt, 300, 1);
 }
 
 // A "no" of `would_accept` is no bar.
 fn no_is_no_bar(rt: &impl Print) {
-    let mut words = [0u64; 132];
-    let mut bytes = [0u8; 16];
-    let body = [0u8, 1, 2, 3, 4, 5, 6, 7, 8, 9, 10, 11, 12, 13, 14, 15];
-    begin(rt, &mut words, &bytes, limits(1, 1, 10, 10, None));
-    offer(rt, &mut words, &mut bytes, 300, &body[..6], 0);
-    ask(rt, &words, &bytes, 300, 5, 1);
-    offer(rt, &mut words, &mut bytes, 300, &body[..5], 1);
+    let mut areas = Areas::opened(rt, limits(1, 1, 10, 10, None));
+    areas.offer(rt, 300, &BODY[..6], 0);
+    areas.ask(rt, 300, 5, 1);
+    areas.offer(rt, 300, &BODY[..5], 1);
 }
 
 // The list that document 01 gives to `pendlist`.
 fn listed(rt: &impl Print) {
-    let mut words = [0u64; 132];
-    let mut bytes = [0u8; 16];
-    let body = [0u8, 1, 2, 3, 4, 5, 6, 7, 8, 9, 10, 11, 12, 13, 14, 15];
-    begin(rt, &mut words, &bytes, limits(2, 2, 10, 16, Some(100)));
-    offer(rt, &mut words, &mut bytes, 300, &body[..6], 0);
-    offer(rt, &mut words, &mut bytes, 301, &body[..8], 1);
-    offer(rt, &mut words, &mut bytes, 300, &body[..4], 2);
-    take(rt, &mut words, &bytes, 301, 3);
-    read(rt, &words, &bytes, 0);
+    let mut areas = Areas::opened(rt, limits(2, 2, 10, 16, Some(100)));
+    areas.offer(rt, 300, &BODY[..6], 0);
+    areas.offer(rt, 301, &BODY[..8], 1);
+    areas.offer(rt, 300, &BODY[..4], 2);
+    areas.drain(rt, 301, 3);
+    areas.read(rt, 0);
 }
 
 // A wrong reading: pruning before step 2 would save 301.
 fn pruning_first(rt: &impl Print) {
-    let mut words = [0u64; 132];
-    let mut bytes = [0u8; 16];
-    let body = [0u8, 1, 2, 3, 4, 5, 6, 7, 8, 9, 10, 11, 12, 13, 14, 15];
-    begin(rt, &mut words, &bytes, limits(2, 2, 10, 10, Some(100)));
-    offer(rt, &mut words, &mut bytes, 301, &body[..4], 50);
-    offer(rt, &mut words, &mut bytes, 300, &body[..6], 1);
-    offer(rt, &mut words, &mut bytes, 300, &body[..5], 101);
+    let mut areas = Areas::opened(rt, limits(2, 2, 10, 10, Some(100)));
+    areas.offer(rt, 301, &BODY[..4], 50);
+    areas.offer(rt, 300, &BODY[..6], 1);
+    areas.offer(rt, 300, &BODY[..5], 101);
 }
 
 // A wrong reading: promoting on 20 would save 300.
 fn promotion_on_20(rt: &impl Print) {
-    let mut words = [0u64; 132];
-    let mut bytes = [0u8; 16];
-    let body = [0u8, 1, 2, 3, 4, 5, 6, 7, 8, 9, 10, 11, 12, 13, 14, 15];
-    begin(rt, &mut words, &bytes, limits(2, 1, 10, 16, None));
-    offer(rt, &mut words, &mut bytes, 300, &body[..1], 0);
-    offer(rt, &mut words, &mut bytes, 301, &body[..1], 1);
-    offer(rt, &mut words, &mut bytes, 300, &body[..1], 2);
-    offer(rt, &mut words, &mut bytes, 302, &body[..1], 3);
-    take(rt, &mut words, &bytes, 300, 4);
+    let mut areas = Areas::opened(rt, limits(2, 1, 10, 16, None));
+    areas.offer(rt, 300, &BODY[..1], 0);
+    areas.offer(rt, 301, &BODY[..1], 1);
+    areas.offer(rt, 300, &BODY[..1], 2);
+    areas.offer(rt, 302, &BODY[..1], 3);
+    areas.drain(rt, 300, 4);
 }
 
 // A wrong reading: an age equal to the TTL as live.
 fn age_of_the_ttl(rt: &impl Print) {
-    let mut words = [0u64; 132];
-    let mut bytes = [0u8; 16];
-    let body = [0u8, 1, 2, 3, 4, 5, 6, 7, 8, 9, 10, 11, 12, 13, 14, 15];
-    begin(rt, &mut words, &bytes, limits(1, 1, 10, 10, Some(100)));
-    offer(rt, &mut words, &mut bytes, 300, &body[..1], 0);
-    ask(rt, &words, &bytes, 300, 2, 99);
-    ask(rt, &words, &bytes, 300, 2, 100);
-    offer(rt, &mut words, &mut bytes, 300, &body[..2], 100);
+    let mut areas = Areas::opened(rt, limits(1, 1, 10, 10, Some(100)));
+    areas.offer(rt, 300, &BODY[..1], 0);
+    areas.ask(rt, 300, 2, 99);
+    areas.ask(rt, 300, 2, 100);
+    areas.offer(rt, 300, &BODY[..2], 100);
 }
 
 // 6 keeps the chance and an offer ends it; the Rust loses a body by the put-back that is refused here.
 fn chance_ended(rt: &impl Print) {
-    let mut words = [0u64; 132];
-    let mut bytes = [0u8; 16];
-    let body = [0u8, 1, 2, 3, 4, 5, 6, 7, 8, 9, 10, 11, 12, 13, 14, 15];
-    begin(rt, &mut words, &bytes, limits(1, 1, 2, 2, None));
-    offer(rt, &mut words, &mut bytes, 300, &body[..2], 0);
-    take(rt, &mut words, &bytes, 300, 0);
-    offer(rt, &mut words, &mut bytes, 300, &body[..3], 0);
-    read(rt, &words, &bytes, 0);
-    offer(rt, &mut words, &mut bytes, 300, &body[..1], 0);
-    put_back(rt, &mut words, &bytes, 300, 1);
+    let mut areas = Areas::opened(rt, limits(1, 1, 2, 2, None));
+    areas.offer(rt, 300, &BODY[..2], 0);
+    areas.drain(rt, 300, 0);
+    areas.offer(rt, 300, &BODY[..3], 0);
+    areas.read(rt, 0);
+    areas.offer(rt, 300, &BODY[..1], 0);
+    areas.put_back(rt, 300, 1);
 }
 
 // Bodies of length 0, bodies that fill the byte area to its end, bodies that move; limits refused and taken; a clear.
 fn ends_and_limits(rt: &impl Print) {
-    let mut words = [0u64; 132];
-    let mut bytes = [0u8; 16];
-    let body = [0u8, 1, 2, 3, 4, 5, 6, 7, 8, 9, 10, 11, 12, 13, 14, 15];
-    begin(rt, &mut words, &bytes, limits(3, 3, 16, 16, None));
-    offer(rt, &mut words, &mut bytes, 300, &body[..0], 0);
-    offer(rt, &mut words, &mut bytes, 301, &body[..9], 0);
-    offer(rt, &mut words, &mut bytes, 302, &body[..7], 0);
-    offer(rt, &mut words, &mut bytes, 302, &body[..0], 0);
-    take(rt, &mut words, &bytes, 301, 0);
-    offer(rt, &mut words, &mut bytes, 303, &body[7..16], 0);
-    take(rt, &mut words, &bytes, 302, 0);
-    read(rt, &words, &bytes, 0);
-    take(rt, &mut words, &bytes, 303, 0);
-    read(rt, &words, &bytes, 0);
-    put_back(rt, &mut words, &bytes, 303, 1);
-    change_limits(rt, &mut words, &mut bytes, limits(0, 0, 0, 0, None));
-    change_limits(rt, &mut words, &mut bytes, limits(3, 0, 0, 0, None));
-    change_limits(rt, &mut words, &mut bytes, limits(3, 3, 0, 1, None));
-    change_limits(rt, &mut words, &mut bytes, limits(3, 3, 2, 1, None));
-    change_limits(rt, &mut words, &mut bytes, limits(1025, 1, 1, 1, None));
-    change_limits(rt, &mut words, &mut bytes, limits(2, 1, 9, 9, Some(0)));
-    change_limits(rt, &mut words, &mut bytes, limits(2, 2, 9, 12, None));
-    offer(rt, &mut words, &mut bytes, 304, &body[..9], 0);
-    take(rt, &mut words, &bytes, 304, 0);
-    empty(rt, &mut words, &bytes);
-    put_back(rt, &mut words, &bytes, 304, 1);
+    let mut areas = Areas::opened(rt, limits(3, 3, 16, 16, None));
+    areas.offer(rt, 300, &BODY[..0], 0);
+    areas.offer(rt, 301, &BODY[..9], 0);
+    areas.offer(rt, 302, &BODY[..7], 0);
+    areas.offer(rt, 302, &BODY[..0], 0);
+    areas.drain(rt, 301, 0);
+    areas.offer(rt, 303, &BODY[7..16], 0);
+    areas.drain(rt, 302, 0);
+    areas.read(rt, 0);
+    areas.drain(rt, 303, 0);
+    areas.read(rt, 0);
+    areas.put_back(rt, 303, 1);
+    areas.resize(rt, limits(0, 0, 0, 0, None));
+    areas.resize(rt, limits(3, 0, 0, 0, None));
+    areas.resize(rt, limits(3, 3, 0, 1, None));
+    areas.resize(rt, limits(3, 3, 2, 1, None));
+    areas.resize(rt, limits(1025, 1, 1, 1, None));
+    areas.resize(rt, limits(2, 1, 9, 9, Some(0)));
+    areas.resize(rt, limits(2, 2, 9, 12, None));
+    areas.offer(rt, 304, &BODY[..9], 0);
+    areas.drain(rt, 304, 0);
+    areas.clear(rt);
+    areas.put_back(rt, 304, 1);
 }
 
 // Areas that hold no cache.
 fn damaged(rt: &impl Print) {
-    let mut words = [0u64; 132];
-    let bytes = [0u8; 16];
-    take(rt, &mut words, &bytes, 300, 0);
-    empty(rt, &mut words, &bytes);
+    let mut areas = Areas::new();
+    areas.drain(rt, 300, 0);
+    areas.clear(rt);
 }
 
 fn main(rt: HostRuntime) {

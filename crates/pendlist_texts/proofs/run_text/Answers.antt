@@ -19,7 +19,8 @@ returns-then-is_bad c =
     let first = s.1.2 (λ b. eqb b 10) (answers_always _ _ _ (λ f x b q k. search (rules, tests))) in
     let next = part_is_line _ _ _ s.1.0 s.0 s.1.1 first.1 s.2 in
     let ran = line_lent _ _ _ c.line_end.ensures c.run_line-outcome.ensures in
-    list_ends c.loop-row.invariant next ran c.put_outcome-filled.ensures c.is_bad.ensures c.if-is_bad.true
+    list_ends c.loop-row.invariant next ran c.put_outcome-filled.ensures c.requires.1 (search rules) c.is_bad.ensures
+    c.if-is_bad.true
 
 pub loop-row-preserved : goal.loop-row-preserved
 loop-row-preserved c =
@@ -27,8 +28,8 @@ loop-row-preserved c =
     let first = s.1.2 (λ b. eqb b 10) (answers_always _ _ _ (λ f x b q k. search (rules, tests))) in
     let next = part_is_line _ _ _ s.1.0 s.0 s.1.1 first.1 s.2 in
     let ran = line_lent _ _ _ c.line_end.ensures c.run_line-outcome.ensures in
-    list_goes_on c.loop-row.invariant next ran c.put_outcome-filled.ensures (search rules) (search rules) (search rules)
-    c.is_bad.ensures c.if-is_bad.false
+    list_goes_on c.loop-row.invariant next ran c.put_outcome-filled.ensures c.requires.1 (search rules) (search rules)
+    (search rules) c.is_bad.ensures c.if-is_bad.false
 
 pub returns : goal.returns
 returns c = list_over c.loop-row.invariant c.in-None.ensures.steps.0
