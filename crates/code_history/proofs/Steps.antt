@@ -24,7 +24,7 @@ use Rattle.history.specs.Claim.{EventPromised, OpeningPromised}
 use Rattle.pending_flows.specs.View.{Areas}
 use Rattle.pending_flows.specs.Opening.{Opens, opening_answer}
 use Rattle.code_history.specs.Runs.{opening_of, Step}
-use Rattle.code_history.proofs.Views.{HoldsCache, read_cache, view_read, view_says, promised, asked_promised}
+use Rattle.code_history.proofs.Views.{areas, view_read, view_says, promised, asked_promised}
 
 -- ---- openings
 
@@ -52,7 +52,7 @@ module _ (l : PendingFlowsConfig) (a : Areas) where
         by_test true t = accepted_number r (p.answer ∙ rw t) ∙ sym (eqb-true number_in 0 t)
         by_test false t = refused_number r number_in (p.answer ∙ rw t)
 
-    pub opening_promised : OpeningPromised Areas HoldsCache read_cache (opening_of l a) a a' (opening_answer r)
+    pub opening_promised : OpeningPromised areas (opening_of l a) a a' (opening_answer r)
     unfolding opening
     opening_promised = record {
       refused = λ ne. (p.answer ∙ rw (ne_eqb number_in 0 ne), p.refused (λ z. ne (sym opening_number_lem ∙ z)));
@@ -95,7 +95,7 @@ module _ (o : Opening) (a a' : Areas) where
   step_lengths (Step.refuses_opening n p) = same_lengths (ap length p.bytes) p.long
 
   pub step_promised : {e : Event} {r : Answer} → Step a a' e r → Own o a
-      → EventPromised Areas HoldsCache read_cache o e a a' r
+      → EventPromised areas o e a a' r
   unfolding does read_handed_out
   step_promised (Step.offers r p) own = (tt, promised p.performs.answer p.performs.holds)
   step_promised (Step.drains r p) own = (tt, promised p.performs.answer p.performs.holds)

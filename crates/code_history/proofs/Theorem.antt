@@ -25,7 +25,7 @@ use Rattle.pending_queries.specs.Queries.{Asks}
 use Rattle.pending_offer.specs.Promises.{Offers, offer_answer}
 use Rattle.code_history.specs.Runs.{Step, Steps, Ran}
 use Rattle.code_history.specs.Claim.{CodeAccounted}
-use Rattle.code_history.proofs.Views.{HoldsCache, read_cache, view_read, total_read, promised, asked_promised}
+use Rattle.code_history.proofs.Views.{areas, view_read, total_read, promised, asked_promised}
 use Rattle.code_history.proofs.Views.{handed_out_bytes}
 use Rattle.code_history.proofs.Steps.{Own, opening_number_lem, opening_promised, refusal_not_zero, step_lengths}
 use Rattle.code_history.proofs.Steps.{same_lengths, step_promised}
@@ -33,7 +33,7 @@ use Rattle.code_history.proofs.Steps.{same_lengths, step_promised}
 -- ---- chains of steps
 
 steps_linked : {o : Opening} {es : List Event} {a a' : Areas} {rs : List Answer} → Steps es a rs a' → Own o a
-    → Linked Areas HoldsCache read_cache o es a rs a' × Own o a'
+    → Linked areas o es a rs a' × Own o a'
 steps_linked Steps.none own = (Linked.none, own)
 steps_linked {o} (Steps.next {a = a} {a' = a'} s l) own =
     let rest = steps_linked l (step_lengths o a a' s own) in
@@ -65,12 +65,12 @@ module _ (h : History) (run : Ran h) where
   own_empty =
       same_lengths h.opening run.found run.empty (ap length run.opens.bytes) run.opens.long run.own
 
-  linked : Linked Areas HoldsCache read_cache h.opening h.events run.empty run.answers run.last
+  linked : Linked areas h.opening h.events run.empty run.answers run.last
       × Own h.opening run.last
   linked = steps_linked run.events own_empty
 
   -- the run as the history theorem takes it
-  abbrev as_run : Run Areas HoldsCache read_cache h
+  abbrev as_run : Run areas h
   as_run = record {
     lent = run.lent;
     found = run.found;
@@ -81,7 +81,7 @@ module _ (h : History) (run : Ran h) where
     answers = run.answers;
     refused = (steps_linked run.refused own_lent).0;
     succeeds = ap opening_number run.own ∙ sym (opening_number_lem own_limits run.found run.opens);
-    opening = subst (λ (o : Opening). OpeningPromised Areas HoldsCache read_cache o run.found run.empty done)
+    opening = subst (λ (o : Opening). OpeningPromised areas o run.found run.empty done)
         (sym run.own) (opening_promised own_limits run.found run.opens);
     events = linked.0;
   }
@@ -89,8 +89,8 @@ module _ (h : History) (run : Ran h) where
   abbrev end : Cache
   end = (account_of h).cache
 
-  accounted : Accounted Areas HoldsCache read_cache h as_run
-  accounted = every_run_accounted Areas HoldsCache read_cache h as_run
+  accounted : Accounted areas h as_run
+  accounted = every_run_accounted areas h as_run
 
   held_total : byte_total (unnumbered end).held ≡ byte_total end.held
   held_total = total_renumbered (λ _. 0) end.held

@@ -5,7 +5,6 @@ use mathlib.Core.Bool.{Bool, true, false, cond}
 use mathlib.Core.List.{List, [], ◌∷◌, map}
 use mathlib.Core.Option.{Option, none, some}
 use Prim.Native.Nat.{ℕ, zero, suc}
-use native.Mathlib.Omega.{arith}
 use lib.ListN.{length, get_or}
 use Rattle.table.specs.Layout.{total_word}
 use Rattle.table.specs.Table.{table_of}
@@ -16,7 +15,7 @@ use Rattle.cache_model.specs.Cache.{Cache, Answer, Figures}
 use Rattle.cache_model.specs.Queries.{no_body, figures, handed_out}
 use Rattle.cache_model.specs.History.{Call, does}
 use Rattle.cache_model.specs.Reply.{called}
-use Rattle.history.specs.Claim.{unnumbered_body, unnumbered, Promised}
+use Rattle.history.specs.Claim.{unnumbered_body, unnumbered, Memory, Promised}
 use Rattle.pending_flows.specs.View.{Areas, cache_of, view}
 use Rattle.pending_queries.proofs.Figures.{figures_read}
 
@@ -25,6 +24,10 @@ HoldsCache a = well_formed a.words (length a.bytes) ≡ true
 
 abbrev pub read_cache : Areas → Cache
 read_cache a = cache_of (table_of a.words) a.bytes
+
+-- the areas as the history theorem takes them
+abbrev pub areas : Memory
+areas = record { State = Areas; WellFormed = HoldsCache; read = read_cache }
 
 module _ (a : Areas) where
   pub view_read : HoldsCache a → view a ≡ some (read_cache a)
@@ -38,10 +41,7 @@ module _ (a : Areas) where
       by_test : (v : Bool) → well_formed a.words (length a.bytes) ≡ v → cond v (some (read_cache a)) none ≡ some c
           → HoldsCache a × (read_cache a ≡ c)
       by_test true t s = (t, cc)
-      by_test false t s =
-          let z : ◌≡◌ {A = ℕ} 0 1 = cc in
-          let no : ⊥ = omega arith in
-          absurd no
+      by_test false t s = absurd (cc)
 
   -- the stored byte total is the sum of the held lengths
   pub total_read : HoldsCache a → total_word a.words ≡ byte_total (read_cache a).held
@@ -52,7 +52,7 @@ module _ (a : Areas) where
 
 -- what the history theorem asks of a call
 abbrev pub Keeps : Call → Areas → Areas → Answer → Type 0
-Keeps x a a' r = Promised Areas HoldsCache read_cache x a a' r
+Keeps x a a' r = Promised areas x a a' r
 
 -- of a call that answers and leaves what the definition says, and of a query
 module _ {x : Call} {a a' : Areas} {r : Answer} where

@@ -9,27 +9,30 @@ use Prim.Native.Nat.{ℕ, ◌+◌, ◌≤◌, ◌<◌}
 use native.Mathlib.Omega.{arith}
 use lib.Dec.{eqb, leb, ltb}
 use lib.ListN.{length}
+use Rattle.std.proofs.lemmas.Bool.Decides.{nat_tests}
+use Rattle.std.proofs.lemmas.List.Elements.{filter_map-append}
+use Rattle.std.proofs.lemmas.List.Sums.{sum_by-cons}
 use borrow.Author.Tests.{eqb-true, ltb-false}
 use Rattle.config.specs.declared.PendingFlowsConfig.{PendingFlowsConfig}
-use Rattle.config.specs.Limits.{limits_number, areas_hold, config_number}
+use Rattle.config.specs.Limits.{limits_number, config_number}
 use Rattle.config.proofs.Tests.{by_case}
 use Rattle.cache_model.specs.Bodies.{Body, size, keep, all_bodies, bodies_of, expired}
 use Rattle.cache_model.specs.Removal.{Split}
-use Rattle.cache_model.specs.Cache.{Cache, Answer, done, number, count, says, shows, spans, tells, Outcome}
+use Rattle.cache_model.specs.Cache.{Cache, Answer, done, number, count, spans, Outcome}
 use Rattle.cache_model.specs.Offer.{Verdict, accepted, refused, verdict_answer, steps2to5, refused_size, settled}
 use Rattle.cache_model.specs.Offer.{offered}
 use Rattle.cache_model.specs.Calls.{drained, may_put_back, put_back, shrunk, resized_to, resized, cleared}
-use Rattle.cache_model.specs.Queries.{would_accept, read_handed_out, place_handed_out, handed_out, figures}
-use Rattle.cache_model.specs.History.{Call, Offer, Drain, PutBack, Resize, Clear, WouldAccept, ReadHandedOut}
-use Rattle.cache_model.specs.History.{PlaceHandedOut, TakeFigures, does}
+use Rattle.cache_model.specs.Queries.{read_handed_out, place_handed_out, handed_out}
+use Rattle.cache_model.specs.History.{Call, Offer, Drain, PutBack, Resize, Clear}
+use Rattle.cache_model.specs.History.{PlaceHandedOut, does}
 use Rattle.cache_model.proofs.Calls.{Limited, limited, held_within}
 use Rattle.cache_model.proofs.Acceptance.{verdict_in_full, unexpired}
 use Rattle.history.specs.Account.{opening_number, Event, call, refused_opening, offered_by, body, Account, Change}
 use Rattle.history.specs.Account.{no_change, change, next, answer_to, account_after, answers_to, refusals_in}
-use Rattle.history.specs.Account.{refused_offer, offer_change, put_back_change, chance_ends}
+use Rattle.history.specs.Account.{refused_offer, refused_ordinal, offer_change, put_back_change, chance_ends}
 use Rattle.history.specs.Claim.{offers_in, offers_answered, ordinals, is_done, is_refusal, times_in}
 use Rattle.history.proofs.Cases.{by_test, cond_same, one_offer, length_offered}
-use Rattle.history.proofs.Drops.{refusals_append, no_refusals}
+use Rattle.history.proofs.Drops.{no_refusals}
 use Rattle.history.proofs.Order.{InOrder, next_in_order}
 
 -- ---- one call
@@ -41,35 +44,15 @@ record Tells (offered : List Body) (r : Answer) (d : Change) : Type 0 where
   not28 : r ≢ number 28
 
 abbrev pub number_of : Answer → ℕ
-number_of done = 0
 number_of (number n) = n
-number_of (count n) = 0
-number_of (says b) = 0
-number_of (shows bs) = 0
-number_of (spans n) = 0
-number_of (tells f) = 0
+number_of r = 0
 
 pub below28 : (r : Answer) → number_of r < 28 → r ≢ number 28
 below28 r h e = omega (arith, ap number_of e)
 
 pub config_number_small : (l : PendingFlowsConfig) (bytes words : ℕ) → config_number l bytes words ≤ 5
 unfolding config_number limits_number
-config_number_small l bytes words =
-    small (eqb (limits_number l) 0) (small (areas_hold l bytes words) (omega arith) (omega arith)) limits_small
-  where
-    small : (q : Bool) {m n : ℕ} → m ≤ 5 → n ≤ 5 → cond q m n ≤ 5
-    small true h g = h
-    small false h g = g
-
-    limits_small : limits_number l ≤ 5
-    limits_small =
-        let templates = l.max_pending_flows in
-        let entries = l.max_entries_per_template in
-        let entry = l.max_entry_size_bytes in
-        let total = l.max_total_bytes in
-        small (eqb templates 0) (omega arith) (small (eqb entries 0) (omega arith) (small (eqb entry 0) (omega arith)
-        (small (ltb 65531 entry) (omega arith) (small (eqb total 0) (omega arith)
-        (small (ltb total entry) (omega arith) (omega arith))))))
+config_number_small l bytes words = grind (arith, nat_tests)
 
 or_27_below28 : (q : Bool) (r : Answer) → number_of r < 28 → number_of (cond q r (number 27)) < 28
 or_27_below28 true r h = h
@@ -92,13 +75,13 @@ tells_verdict : (c : Cache) (b : Body) (s : Split) (full : Bool) → let v = con
     Tells (b ∷ []) (verdict_answer v) (offer_change c b (record { verdict = v; left = s }))
 tells_verdict c b s true = record {
   accepted = refl;
-  refusals = refusals_append (map body s.removed) (refused_offer b.number ∷ [])
+  refusals = filter_map-append refused_ordinal (map body s.removed) (refused_offer b.number ∷ [])
       ∙ ap (λ (ks : List ℕ). ks ++ (b.number ∷ [])) (no_refusals s.removed);
   not28 = below28 (number 20) (omega arith);
 }
 tells_verdict c b s false = record {
   accepted = refl;
-  refusals = refusals_append (map body s.removed) [] ∙ append-nil (refusals_in (map body s.removed))
+  refusals = filter_map-append refused_ordinal (map body s.removed) [] ∙ append-nil (refusals_in (map body s.removed))
       ∙ no_refusals s.removed;
   not28 = below28 done (omega arith);
 }
@@ -146,15 +129,11 @@ call_tells k (Resize l bytes words) c h =
     (λ _. tells_no_refusal (count (length removed)) c removed [] (omega arith))
     (λ _. tells_nothing (number n) no_change refl refl (omega (arith, config_number_small l bytes words)))
 call_tells k Clear c h = tells_no_refusal done c [] (all_bodies c.held) (omega arith)
-call_tells k (WouldAccept i n now) c h =
-    tells_nothing (says (would_accept i n now c)) no_change refl refl (omega arith)
-call_tells k (ReadHandedOut n) c h =
-    tells_nothing (read_handed_out n c) no_change refl refl (omega arith)
 call_tells k (PlaceHandedOut n) c h =
     let span = spans (size (handed_out n c)) in
     tells_nothing (place_handed_out n c) no_change refl refl
     (or_27_below28 (ltb n (length c.chance.bodies)) span (omega arith))
-call_tells k TakeFigures c h = tells_nothing (tells (figures c)) no_change refl refl (omega arith)
+call_tells k query c h = tells_nothing (does k query c).answer no_change refl refl (omega arith)
 
 -- ---- a list of events
 
@@ -172,7 +151,7 @@ event_tells (call x) a h =
     let t = call_tells a.offers x a.cache (limited h) in
     record {
       accepted = ap (λ (bs : List Body). a.accepted ++ bs) t.accepted;
-      refusals = refusals_append a.drops d.drops
+      refusals = filter_map-append refused_ordinal a.drops d.drops
           ∙ ap (λ (ks : List ℕ). refusals_in a.drops ++ ks) t.refusals;
       offers = refl;
       not28 = t.not28;
@@ -209,7 +188,13 @@ all_told (e ∷ es) a h =
     record {
       accepted = rest.accepted ∙ rw (t.accepted, t.offers, append_assoc);
       refusals = rest.refusals ∙ rw (t.refusals, t.offers, append_assoc, map-append);
-      offers = omega (arith, rest.offers, t.offers, length_offered a.offers e);
+      offers = omega (
+        arith,
+        rest.offers,
+        t.offers,
+        length_offered a.offers e,
+        sum_by-cons (λ (f : Event). length (offered_by 0 f)) e es,
+      );
       never28 = λ m. ⊎_elim (λ e. t.not28 (sym e)) rest.never28 (Memᴰ.cases_cons m);
     }
 

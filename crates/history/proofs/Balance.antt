@@ -6,25 +6,25 @@ use mathlib.Core.Bool.{Bool, not}
 use Prim.Native.Nat.{ℕ, ◌+◌, ◌-◌, min}
 use native.Mathlib.Omega.{arith}
 use lib.Dec.{eqb, ltb}
+use Rattle.std.proofs.lemmas.List.Elements.{filter_map-append}
 use lib.ListN.{length, drop, length-append, length-map}
 use Rattle.config.specs.declared.PendingFlowsConfig.{PendingFlowsConfig}
 use Rattle.config.specs.Limits.{config_number}
 use Rattle.cache_model.specs.Bodies.{Body, size, sum_bodies, sum_templates, keep, all_bodies, bodies_of, expired}
-use Rattle.cache_model.specs.Cache.{Cache, Answer, done, number, says, tells, Outcome, counter_most, chance_of}
-use Rattle.cache_model.specs.Queries.{would_accept, read_handed_out, place_handed_out, figures}
+use Rattle.cache_model.specs.Cache.{Cache, Answer, done, number, Outcome, counter_most, chance_of}
 use Rattle.cache_model.specs.Offer.{Verdict, accepted, refused, accepted_bodies, refusal_drops, steps2to5, refused_size}
 use Rattle.cache_model.specs.Offer.{settled, offered}
 use Rattle.cache_model.specs.Calls.{drained, restored, may_put_back, put_back, shrunk, resized_to, resized, cleared}
-use Rattle.cache_model.specs.History.{Call, Offer, Drain, PutBack, Resize, Clear, WouldAccept, ReadHandedOut}
-use Rattle.cache_model.specs.History.{PlaceHandedOut, TakeFigures, does}
+use Rattle.cache_model.specs.History.{Call, Offer, Drain, PutBack, Resize, Clear}
+use Rattle.cache_model.specs.History.{does}
 use Rattle.cache_model.proofs.Weights.{sum_append, sum_templates_lem, sum_all, sum_keep, sum_without, sum_drop}
 use Rattle.cache_model.proofs.Weights.{offer_conserves, shrunk_conserves}
 use Rattle.history.specs.Account.{Event, call, refused_opening, offered_by, body, Account, Change, begun}
 use Rattle.history.specs.Account.{no_change, size_refusal, refusal_unit, offer_change, drain_change, chance_ends}
 use Rattle.history.specs.Account.{put_back_change, resize_change, clear_change, change, next, account_after}
-use Rattle.history.specs.Account.{bodies_in, refusals_in}
+use Rattle.history.specs.Account.{dropped_body, refused_ordinal, bodies_in, refusals_in}
 use Rattle.history.proofs.Cases.{by_test}
-use Rattle.history.proofs.Drops.{bodies_append, refusals_append, bodies_of_bodies, no_refusals}
+use Rattle.history.proofs.Drops.{bodies_of_bodies, no_refusals}
 
 -- ---- one call
 
@@ -76,7 +76,7 @@ module _ (c : Cache) where
         weights = λ w. omega (
           arith,
           offer_conserves w l old i b c.held,
-          ap (sum_bodies w) (bodies_append (map body removed) unit),
+          ap (sum_bodies w) (filter_map-append dropped_body (map body removed) unit),
           sum_append w (bodies_in (map body removed)) (bodies_in unit),
           ap (sum_bodies w) (bodies_of_bodies removed),
           ap (sum_bodies w) (unit_no_body o.verdict),
@@ -90,7 +90,7 @@ module _ (c : Cache) where
         );
         offered = omega (
           arith,
-          ap length (refusals_append (map body removed) unit),
+          ap length (filter_map-append refused_ordinal (map body removed) unit),
           length-append (refusals_in (map body removed)) (refusals_in unit),
           ap length (no_refusals removed),
           one_each o.verdict,
@@ -185,10 +185,7 @@ module _ (c : Cache) where
       let n = config_number l bytes words in
       by_test (λ o d. Balances c o d 0) (eqb n 0) (λ _. resize_balances l) (λ _. unchanged_balances (number n))
   call_balances k Clear = clear_balances
-  call_balances k (WouldAccept i n now) = unchanged_balances (says (would_accept i n now c))
-  call_balances k (ReadHandedOut n) = unchanged_balances (read_handed_out n c)
-  call_balances k (PlaceHandedOut n) = unchanged_balances (place_handed_out n c)
-  call_balances k TakeFigures = unchanged_balances (tells (figures c))
+  call_balances k query = unchanged_balances (does k query c).answer
 
 -- ---- the account
 
@@ -224,7 +221,7 @@ next_balanced (call x) a h =
         sum_append w a.accepted d.accepted,
         sum_append w a.handed_out_for_good d.handed_out_for_good,
         sum_append w a.cleared d.cleared,
-        ap (sum_bodies w) (bodies_append a.drops d.drops),
+        ap (sum_bodies w) (filter_map-append dropped_body a.drops d.drops),
         sum_append w (bodies_in a.drops) (bodies_in d.drops),
       );
       cached = rw (length-append a.accepted d.accepted) (b.cached (length a.accepted) h.cached);
@@ -233,7 +230,7 @@ next_balanced (call x) a h =
         arith,
         b.offered,
         length-append a.accepted d.accepted,
-        ap length (refusals_append a.drops d.drops),
+        ap length (filter_map-append refused_ordinal a.drops d.drops),
         length-append (refusals_in a.drops) (refusals_in d.drops),
       );
     }

@@ -8,9 +8,8 @@ use Prim.Native.Nat.{ℕ}
 use lib.ListN.{length}
 use Rattle.cache_model.specs.Bodies.{Body}
 use Rattle.cache_model.specs.Cache.{Outcome}
-use Rattle.cache_model.specs.History.{Offer, Drain, PutBack, Resize, Clear, WouldAccept, ReadHandedOut}
-use Rattle.cache_model.specs.History.{PlaceHandedOut, TakeFigures}
-use Rattle.history.specs.Account.{Event, call, refused_opening, offered_by, Change}
+use Rattle.cache_model.specs.History.{Offer}
+use Rattle.history.specs.Account.{Event, call, offered_by, Change}
 
 pub by_test : (P : Outcome → Change → Type 0) (q : Bool) {o o' : Outcome} {d d' : Change} → (q ≡ true → P o d)
     → (q ≡ false → P o' d') → P (cond q o o') (cond q d d')
@@ -25,24 +24,8 @@ cond_same false x = refl
 pub one_offer : (k : ℕ) (e : Event)
     → (offered_by k e ≡ []) ⊎ ((b : Body) × (b.number ≡ k) × (offered_by k e ≡ b ∷ []))
 one_offer k (call (Offer i bytes now)) = inr (record { number = k; bytes = bytes; clock = now }, refl, refl)
-one_offer k (call (Drain i now)) = inl refl
-one_offer k (call (PutBack i n)) = inl refl
-one_offer k (call (Resize l bytes words)) = inl refl
-one_offer k (call Clear) = inl refl
-one_offer k (call (WouldAccept i n now)) = inl refl
-one_offer k (call (ReadHandedOut n)) = inl refl
-one_offer k (call (PlaceHandedOut n)) = inl refl
-one_offer k (call TakeFigures) = inl refl
-one_offer k (refused_opening o) = inl refl
+one_offer k e = inl refl
 
 pub length_offered : (k : ℕ) (e : Event) → length (offered_by k e) ≡ length (offered_by 0 e)
 length_offered k (call (Offer i bytes now)) = refl
-length_offered k (call (Drain i now)) = refl
-length_offered k (call (PutBack i n)) = refl
-length_offered k (call (Resize l bytes words)) = refl
-length_offered k (call Clear) = refl
-length_offered k (call (WouldAccept i n now)) = refl
-length_offered k (call (ReadHandedOut n)) = refl
-length_offered k (call (PlaceHandedOut n)) = refl
-length_offered k (call TakeFigures) = refl
-length_offered k (refused_opening o) = refl
+length_offered k e = refl

@@ -1,22 +1,12 @@
 -- Lists of drops: the dropped bodies and the refused offers in them.
 -- Assumes nothing.
 use mathlib.Core.Path.{◌≡◌, refl, ap}
-use mathlib.Core.List.{List, [], ◌∷◌, ◌++◌, map}
-use Prim.Native.Nat.{ℕ, ◌+◌}
+use mathlib.Core.List.{List, [], ◌∷◌, map}
+use Prim.Native.Nat.{◌+◌}
 use native.Mathlib.Omega.{arith}
 use lib.ListN.{length}
 use Rattle.cache_model.specs.Bodies.{Body}
 use Rattle.history.specs.Account.{Drop, body, refused_offer, bodies_in, refusals_in}
-
-pub bodies_append : (ds es : List Drop) → bodies_in (ds ++ es) ≡ bodies_in ds ++ bodies_in es
-bodies_append [] es = refl
-bodies_append (body b ∷ ds) es = ap (λ (bs : List Body). b ∷ bs) (bodies_append ds es)
-bodies_append (refused_offer k ∷ ds) es = bodies_append ds es
-
-pub refusals_append : (ds es : List Drop) → refusals_in (ds ++ es) ≡ refusals_in ds ++ refusals_in es
-refusals_append [] es = refl
-refusals_append (body b ∷ ds) es = refusals_append ds es
-refusals_append (refused_offer k ∷ ds) es = ap (λ (ks : List ℕ). k ∷ ks) (refusals_append ds es)
 
 pub bodies_of_bodies : (bs : List Body) → bodies_in (map body bs) ≡ bs
 bodies_of_bodies [] = refl

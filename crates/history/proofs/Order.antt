@@ -11,8 +11,8 @@ use Rattle.cache_model.specs.Bodies.{Body, size}
 use Rattle.cache_model.specs.Cache.{Cache, Outcome}
 use Rattle.cache_model.specs.Offer.{offered}
 use Rattle.cache_model.specs.Calls.{may_put_back, put_back, resized}
-use Rattle.cache_model.specs.History.{Call, Offer, Drain, PutBack, Resize, Clear, WouldAccept, ReadHandedOut}
-use Rattle.cache_model.specs.History.{PlaceHandedOut, TakeFigures, does}
+use Rattle.cache_model.specs.History.{Call, Offer, Drain, PutBack, Resize, Clear}
+use Rattle.cache_model.specs.History.{does}
 use Rattle.cache_model.proofs.Lists.{SubList, part_trans, part_append, sub_all, sub_none, sub_front}
 use Rattle.cache_model.proofs.Limits.{LegalLimits, config_legal, Followed, followed_within, nothing_within}
 use Rattle.cache_model.proofs.Calls.{CacheWithin, refused_size_within, settled_within, drained_within}
@@ -55,10 +55,7 @@ call_within {F} k (Resize l bytes words) c h =
     (λ e. resized_to_within c h l (config_legal l bytes words (eqb-true n 0 e)))
     (λ _. h)
 call_within k Clear c h = cleared_within c h
-call_within k (WouldAccept i n now) c h = h
-call_within k (ReadHandedOut n) c h = h
-call_within k (PlaceHandedOut n) c h = h
-call_within k TakeFigures c h = h
+call_within k query c h = h
 
 pub begun_in_order : (l : PendingFlowsConfig) → LegalLimits l → InOrder (begun l)
 begun_in_order l legal = record { legal = legal; within = nothing_within l (order_of []) [] }

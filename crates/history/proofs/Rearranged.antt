@@ -34,7 +34,7 @@ is_itself b (no n) = absurd (n refl)
 
 find : (b : Body) (bs : List Body) → 1 ≤ sum_bodies (is b) bs
     → (xs : List Body) × (ys : List Body) × (bs ≡ xs ++ (b ∷ ys))
-find b [] h = let no : ⊥ = omega arith in absurd no
+find b [] h = absurd (omega arith)
 find b (x ∷ bs) h = first (same_body b x) (find b bs) h
   where
     Found : List Body → Type 0
@@ -48,7 +48,7 @@ find b (x ∷ bs) h = first (same_body b x) (find b bs) h
 -- the first body stands somewhere among the others; without both, the rest weighs the same
 pub rearranged : (xs ys : List Body) → ((w : Body → ℕ) → sum_bodies w xs ≡ sum_bodies w ys) → Rearranged xs ys
 rearranged [] [] h = Rearranged.nil
-rearranged [] (y ∷ ys) h = let no : ⊥ = omega (arith, h (λ _. 1)) in absurd no
+rearranged [] (y ∷ ys) h = absurd (omega (arith, h (λ _. 1)))
 rearranged (x ∷ xs) ys h =
     let f = find x ys (omega (arith, h (is x), is_itself x (same_body x x))) in
     let rest = rearranged xs (f.0 ++ f.1) (without_first f.0 f.1 f.2) in

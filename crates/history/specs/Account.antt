@@ -1,14 +1,14 @@
 -- The history account of document 01. It is fed the calls' arguments and the lengths of the cache's own areas, neither
 -- their content nor any answer. It keeps the cache by the rules of cache_model, and what became of each accepted body.
-use Rattle.std.specs.Prelude.{List, [], ◌∷◌, ◌++◌, map, cond, ℕ, ◌+◌, ◌-◌, eqb, ltb, length, take}
+use Rattle.std.specs.Prelude.{Option, Some, None, List, [], ◌∷◌, ◌++◌, map, cond, ℕ, ◌+◌, ◌-◌, eqb, ltb, length, take}
+use Rattle.std.specs.List.{filter_map, fold}
 use Rattle.config.specs.declared.PendingFlowsConfig.{PendingFlowsConfig}
 use Rattle.config.specs.Limits.{config_number}
 use Rattle.cache_model.specs.Bodies.{Body, size, keep, all_bodies, bodies_of, expired}
 use Rattle.cache_model.specs.Cache.{Cache, Answer, done, number}
 use Rattle.cache_model.specs.Offer.{Verdict, accepted, refused, Offered, accepted_bodies, steps2to5}
 use Rattle.cache_model.specs.Calls.{opened, may_put_back, shrunk}
-use Rattle.cache_model.specs.History.{Call, Offer, Drain, PutBack, Resize, Clear, WouldAccept, ReadHandedOut}
-use Rattle.cache_model.specs.History.{PlaceHandedOut, TakeFigures, does}
+use Rattle.cache_model.specs.History.{Call, Offer, Drain, PutBack, Resize, Clear, does}
 
 -- ---- histories
 
@@ -33,17 +33,10 @@ pub record History : Type 0 where
   pub events : List Event  -- what came then; no other opening succeeded
 
 -- the body that an event offers, if it is an offer: k is the offer's ordinal
+-- (a list, since the account appends it to its own; an Option would be turned into one at each use)
 abbrev pub offered_by : ℕ → Event → List Body
 offered_by k (call (Offer i bytes now)) = record { number = k; bytes = bytes; clock = now } ∷ []
-offered_by k (call (Drain i now)) = []
-offered_by k (call (PutBack i n)) = []
-offered_by k (call (Resize l bytes words)) = []
-offered_by k (call Clear) = []
-offered_by k (call (WouldAccept i n now)) = []
-offered_by k (call (ReadHandedOut n)) = []
-offered_by k (call (PlaceHandedOut n)) = []
-offered_by k (call TakeFigures) = []
-offered_by k (refused_opening o) = []
+offered_by k e = []
 
 -- ---- the account
 
@@ -145,10 +138,7 @@ change k (Drain i now) c = drain_change i now c
 change k (PutBack i n) c = cond (eqb n 0) no_change (cond (may_put_back i n c) (put_back_change n c) no_change)
 change k (Resize l bytes words) c = cond (eqb (config_number l bytes words) 0) (resize_change l c) no_change
 change k Clear c = clear_change c
-change k (WouldAccept i n now) c = no_change
-change k (ReadHandedOut n) c = no_change
-change k (PlaceHandedOut n) c = no_change
-change k TakeFigures c = no_change
+change k query c = no_change
 
 -- the account after an event, and the account's answer
 unfoldable pub next : Event → Account → Account
@@ -170,8 +160,7 @@ answer_to (refused_opening o) a = number (opening_number o)
 
 -- the same of a list of events
 unfoldable pub account_after : List Event → Account → Account
-account_after [] a = a
-account_after (e ∷ es) a = account_after es (next e a)
+account_after es a = fold (λ (b : Account) (e : Event). next e b) a es
 
 unfoldable pub answers_to : List Event → Account → List Answer
 answers_to [] a = []
@@ -189,16 +178,21 @@ answers_of h = map (λ o. number (opening_number o)) h.refused ++ (done ∷ even
 
 -- ---- the fates of accepted bodies
 
--- the dropped bodies in a list of drops, and the ordinals of the refused offers
+-- the dropped body, or the ordinal of the refused offer
+abbrev pub dropped_body : Drop → Option Body
+dropped_body (body b) = Some b
+dropped_body (refused_offer k) = None
+
+abbrev pub refused_ordinal : Drop → Option ℕ
+refused_ordinal (body b) = None
+refused_ordinal (refused_offer k) = Some k
+
+-- all in a list of drops
 abbrev pub bodies_in : List Drop → List Body
-bodies_in [] = []
-bodies_in (body b ∷ ds) = b ∷ bodies_in ds
-bodies_in (refused_offer k ∷ ds) = bodies_in ds
+bodies_in ds = filter_map dropped_body ds
 
 abbrev pub refusals_in : List Drop → List ℕ
-refusals_in [] = []
-refusals_in (body b ∷ ds) = refusals_in ds
-refusals_in (refused_offer k ∷ ds) = k ∷ refusals_in ds
+refusals_in ds = filter_map refused_ordinal ds
 
 abbrev pub held_bodies : Account → List Body
 held_bodies a = all_bodies a.cache.held
