@@ -48,6 +48,7 @@ pub fn read_budget(words: &[u64; 7]) -> DecodedOutputBudget
 }
 
 // The words of an excess: which limit, its configured figure and the attempted sum.
+// An array, and no `From`: neither type is of this crate, and the crate of the figures knows no words.
 fn excess_words(excess: OutputBudgetExceeded) -> [u64; 3]
     ensures { result ≡ values_of_excess excess }
 {
@@ -111,6 +112,7 @@ pub fn read_report(success: u32, reported: &[u64; 3]) -> Option<PendingOutputPre
 }
 
 // Three limits as words.
+// An array, and no `From`: neither type is of this crate, and the crate of the figures knows no words.
 fn limit_words(accepted: DecodedOutputLimits) -> [u64; 3]
     ensures { result ≡ accepted.max_records ∷ accepted.max_field_values.0 ∷ accepted.max_field_payload_bytes.0 ∷ [] }
 {

@@ -15,6 +15,7 @@ pub fn reserve(budget: &mut [u64; 7], values: u64, payload_bytes: u64, excess: &
         budget.old budget.new }
 {
     let mut b = read_budget(budget);
+    // A count by its type's name, as in budget_words: by `.into()` no line would say which of the two it is.
     let values = FieldValues(values as usize);
     let payload = PayloadBytes(payload_bytes as usize);
     let answer = output_reserve::reserve(&mut b, values, payload);

@@ -10,6 +10,7 @@ use output_preflight::{PendingOutputPreflight, Refusal};
 use wire::Reading;
 
 // Field values, payload bytes and remainder as words.
+// An array, and no `From`: neither type is of this crate, and the crate of the figures knows no words.
 fn cost_words(measured: PendingOutputPreflight) -> [u64; 3]
     ensures { result ≡ measured.field_values.0 ∷ measured.field_payload_bytes.0 ∷ measured.remainder_len ∷ [] }
 {

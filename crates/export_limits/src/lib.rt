@@ -19,6 +19,7 @@ pub fn limits(
 {
     let answer = DecodedOutputLimits::new(
         max_records as usize,
+        // A count by its type's name, as in budget_words: by `.into()` no line would say which of the two it is.
         FieldValues(max_values as usize),
         PayloadBytes(max_payload_bytes as usize),
     );

@@ -37,6 +37,7 @@ pub fn would_accept(
 }
 
 // The six figures as words.
+// An array, and no `From`: neither type is of this crate, and the crate of the figures knows no words.
 fn figure_words(found: CacheFigures) -> [u64; 6]
     ensures { result ≡ found.templates ∷ found.bodies ∷ found.bytes ∷ found.cached ∷ found.dropped ∷ found.handed
         ∷ [] }
@@ -68,6 +69,7 @@ pub fn figures(words: &[u64], bytes: &[u8], figures: &mut [u64; 6]) -> u32
 }
 
 // Place and length as words.
+// An array, and no `From`: neither type is of this crate, and the crate of the figures knows no words.
 fn place_words(found: BodyPlace) -> [u64; 2]
     ensures { result ≡ found.place ∷ found.len ∷ [] }
 {

@@ -1,5 +1,6 @@
 // How many least recent templates an offer evicts for its bytes: step 2.
-// Both areas are given, also where the words alone are read: what is asked is that the two hold a cache.
+// Both areas are given, also where the words alone are read: what is asked is that the two hold a cache. They are two
+// parameters, as some calls change the words alone.
 ghost use Rattle.std.specs.Prelude.{None, true, ◌≡◌, ◌≤◌, leb, length, replicate};
 ghost use Rattle.table.specs.Table.{table_of};
 ghost use Rattle.table.specs.Parts.{entries_of, templates_of};
@@ -43,10 +44,7 @@ fn first_reaches(
 ) -> bool
     ensures { result ≡ first_reaches least (templates_of records.now) (entries_of entries.now) }
 {
-    let Some(label) = first_label(records) else {
-        return false;
-    };
-    label_reaches(entries, label, least)
+    first_label(records).is_some_and(|label| label_reaches(entries, label, least))
 }
 
 // How many least recent templates go until the others' bytes are at most `room`, by the bytes of each label.

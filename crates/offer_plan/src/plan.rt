@@ -1,5 +1,6 @@
 // What an offer decides before anything is written: steps 2 to 5.
-// Both areas are given, also where the words alone are read: what is asked is that the two hold a cache.
+// Both areas are given, also where the words alone are read: what is asked is that the two hold a cache. They are two
+// parameters, as some calls change the words alone.
 ghost use Rattle.std.specs.Prelude.{◌≡◌, true, ◌≤◌, length, replicate};
 ghost use Rattle.table.specs.Parts.{entries_of, templates_of};
 ghost use Rattle.table.specs.Reads.{label_in};
@@ -147,6 +148,7 @@ fn none_expires(ttl: Option<u64>, all: bool, count: u64, live: usize) -> bool
 }
 
 // What an offer of a body of this length decides, where the id has so many live bodies.
+// The clause on the length is that of `evictions_for`.
 pub fn plan_offer(
     words: &[u64],
     bytes: &[u8],

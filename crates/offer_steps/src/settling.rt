@@ -1,5 +1,6 @@
 // The counters, and the header after an offer.
-// Both areas are given, also where the words alone are read: what is asked is that the two hold a cache.
+// Both areas are given, also where the words alone are read: what is asked is that the two hold a cache. They are two
+// parameters, as some calls change the words alone.
 ghost use Rattle.std.specs.Prelude.{◌≡◌, ◌≤◌, length, set};
 ghost use Rattle.areas.specs.Overwrite.{overwritten};
 ghost use Rattle.config.specs.Limits.{header_words};
@@ -16,6 +17,7 @@ use pending_flows::{Header, HeaderFigures, handed_count};
 use table::DROPPED;
 
 // Counts one more dropped body.
+// The words, no array of the header's alone: what is promised is of all the words.
 pub fn count_drop(words: &mut [u64])
     requires { header_words ≤ length words.old }
     ensures { words.new ≡ set words.old dropped_at (raised (dropped_word words.old) 1) }
@@ -32,6 +34,7 @@ pub fn held_bodies(words: &[u64], bytes: &[u8], header: Header) -> u64
     header.figures.entries - handed_count(words, bytes, header.limits)
 }
 
+// The words, no array of the header's alone: what is promised is of all the words.
 // Writes the header after an offer: so many bodies more are cached and dropped, so many bytes, templates and bodies are
 // held, and nothing is handed out.
 #[tactic(auto, using(crate::proofs::HeldBodies::header_settled))]

@@ -64,10 +64,7 @@ pub fn choose_label(records: &[[u64; RECORD_WORDS]], label: Option<u64>) -> u64
     requires { length records.now < 1024 }
     ensures { ChoosesLabel label (templates_of records.now) result }
 {
-    match label {
-        Some(held) => held,
-        None => free_label(records),
-    }
+    label.unwrap_or_else(|| free_label(records))
 }
 
 // Puts a body behind the others, and its template's record behind the others, where a removal left room for both.

@@ -1,5 +1,6 @@
 // Clearing a cache.
-// Both areas are given, also where the words alone are read: what is asked is that the two hold a cache.
+// Both areas are given, also where the words alone are read: what is asked is that the two hold a cache. They are two
+// parameters, as some calls change the words alone.
 ghost use Rattle.std.specs.Prelude.{length};
 ghost use Rattle.table.specs.Table.{table_of};
 ghost use Rattle.cache_model.specs.Cache.{done};

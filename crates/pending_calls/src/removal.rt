@@ -1,5 +1,6 @@
 // Removing bodies, once it is decided which.
-// Both areas are given, also where the words alone are read: what is asked is that the two hold a cache.
+// Both areas are given, also where the words alone are read: what is asked is that the two hold a cache. They are two
+// parameters, as some calls change the words alone.
 ghost use Rattle.std.specs.Prelude.{◌≡◌, ◌+◌, ◌*◌, ◌≤◌, length, replicate};
 ghost use Rattle.config.specs.Limits.{record_words};
 ghost use Rattle.table.specs.Layout.{entries_at};
@@ -30,12 +31,7 @@ pub struct Removed {
 pub fn label_test(ttl: Option<u64>, clock: u64, label: u64) -> StayTest
     ensures { result ≡ unexpired ttl clock label }
 {
-    StayTest {
-        ttl,
-        clock,
-        only: Some(label),
-        max_size: u64::MAX,
-    }
+    StayTest::by_age(ttl, clock, Some(label))
 }
 
 // The test by which every body stays: nothing expires without a TTL.

@@ -1,5 +1,6 @@
 // Draining a template.
-// Both areas are given, also where the words alone are read: what is asked is that the two hold a cache.
+// Both areas are given, also where the words alone are read: what is asked is that the two hold a cache. They are two
+// parameters, as some calls change the words alone.
 ghost use Rattle.std.specs.Prelude.{◌≡◌, true, ◌+◌, ◌*◌, ◌≤◌, ◌<◌, length};
 ghost use Rattle.config.specs.Limits.{record_words};
 ghost use Rattle.table.specs.Layout.{entries_at, records_at};

@@ -22,6 +22,8 @@ pub struct HeaderFigures {
 }
 
 // What the header says.
+// Functions take it beside the areas, with `HoldsCache`: a struct of the three would have to keep that while a call
+// writes the words.
 #[derive(Clone, Copy)]
 pub struct Header {
     pub limits: PendingFlowsConfig,
@@ -30,6 +32,7 @@ pub struct Header {
 
 impl Header {
     // The header that the words hold.
+    // The words, no array of the header's alone: what is promised is of all the words.
     pub fn read(words: &[u64]) -> Self
         requires { header_words ≤ length words.now }
         ensures { result ≡ header_at words.now }
@@ -57,6 +60,7 @@ impl Header {
     }
 
     // Writes it to the front of the words.
+    // The words, no array of the header's alone: what is promised is of all the words.
     #[tactic(auto, using(crate::proofs::Openings::header_written))]
     pub fn write(self, words: &mut [u64])
         requires { header_words ≤ length words.old }

@@ -1,5 +1,6 @@
 // The queries on a pending flow cache in lent areas (pending_flows.rs).
-// Both areas are given, also where the words alone are read: what is asked is that the two hold a cache.
+// Both areas are given, also where the words alone are read: what is asked is that the two hold a cache. They are two
+// parameters, as some calls change the words alone.
 #![tactic(auto)]
 
 ghost use Rattle.std.specs.Prelude.{◌≡◌, length};

@@ -16,6 +16,7 @@ pub fn line_end(text: &[u8]) -> usize
 }
 
 // How many bytes of a text are whole lines, each with its newline: what follows them is a line that may go on.
+// `match` and no `map_or`: that the sum fits is known of the place that was found.
 pub fn whole_lines(text: &[u8]) -> usize
     ensures last { result ≡ whole_lines text.now }
     ensures within { result ≤ length text.now }

@@ -57,6 +57,7 @@ fn read_more<R: Read>(reader: &mut R, buffer: &mut [u8], kept: usize) -> usize
     requires { kept ≤ length buffer.old }
     ensures { ReadsBehind kept buffer.old (R.remaining reader.old) result buffer.new (R.remaining reader.new) }
 {
+    // no `unwrap_or`: tried, and that what was read stands behind the rest did not close
     match reader.read(&mut buffer[kept..]) {
         Ok(got) => kept + got,
         Err(_) => kept,

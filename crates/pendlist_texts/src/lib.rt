@@ -10,6 +10,7 @@ use pendlist_input::line_end;
 use pendlist_rows::{Outcome, put_outcome};
 
 // How far the lines of a text have come.
+// Two flags, no enum: a list may end with `bad` before a cache is open and behind it.
 #[derive(Clone, Copy)]
 pub struct TextDone {
     // whether a cache is open
@@ -42,6 +43,7 @@ pub fn run_text(
     let mut opened = opened;
     let mut filled: usize = 0;
     for row in text.split_inclusive(|byte| *byte == b'\n') {
+        // no `strip_suffix`: what a line is, `line_end` promises
         let line = &row[..line_end(row)];
         let outcome = run_line(words, bytes, opened, line);
         filled += put_outcome(&mut out[filled..], outcome);

@@ -1,5 +1,6 @@
 // Removing what the plan of an offer removes (pending_flows.rs).
-// Both areas are given, also where the words alone are read: what is asked is that the two hold a cache.
+// Both areas are given, also where the words alone are read: what is asked is that the two hold a cache. They are two
+// parameters, as some calls change the words alone.
 #![tactic(auto)]
 
 ghost use Rattle.std.specs.Prelude.{◌≡◌, Some, true, ℕ, length};
@@ -21,17 +22,8 @@ use template_removal::{remove_expired_of, remove_template};
 fn stay_test(limits: PendingFlowsConfig, clock: u64, plan: OfferPlan) -> StayTest
     ensures { result ≡ plan_test limits clock plan }
 {
-    let only = if plan.all {
-        None
-    } else {
-        Some(label_number(plan.label))
-    };
-    StayTest {
-        ttl: limits.ttl,
-        clock,
-        only,
-        max_size: u64::MAX,
-    }
+    let only = (!plan.all).then(|| label_number(plan.label));
+    StayTest::by_age(limits.ttl, clock, only)
 }
 
 // Sweeps by the plan, and closes. The record of the label `apart`, if one is told, goes though its bodies stay.

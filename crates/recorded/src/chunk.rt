@@ -15,10 +15,7 @@ fn read_some<R: Read>(reader: &mut R, buffer: &mut [u8]) -> usize
     ensures within { result ≤ length buffer.old }
     ensures taken { Consumes (R.remaining reader.old) (R.remaining reader.new) (take result buffer.new) }
 {
-    match reader.read(buffer) {
-        Ok(n) => n,
-        Err(_) => 0,
-    }
+    reader.read(buffer).unwrap_or(0)
 }
 
 // Reads until the buffer is full, the text ends or a read fails, and answers how many bytes the buffer then has.

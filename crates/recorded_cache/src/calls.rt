@@ -13,6 +13,7 @@ use pending_restore::restore_replay_suffix;
 use table::ttl_of;
 
 // An answer, as the list has it.
+// A number beside a value, as a recorded row has them: of calls whose refusals are of different types.
 #[derive(Clone, Copy)]
 pub struct Answered {
     pub number: u64,

@@ -13,6 +13,7 @@ use output_reserve::reserve;
 use output_rollback::rollback;
 
 // An answer as document 01's number, 0 where the call was done, and its values.
+// A number beside a value, as a recorded row has them: of calls whose refusals are of different types.
 #[derive(Clone, Copy)]
 pub struct Told {
     pub number: u32,
@@ -65,6 +66,7 @@ fn run_materialize(row: &[u64; 19], b: &mut DecodedOutputBudget) -> Result<Told,
 
 // Accepts limits, or refuses them.
 fn run_limits(row: &[u64; 19]) -> Told {
+    // A count by its type's name, as in budget_words: by `.into()` no line would say which of the two it is.
     let values = FieldValues(row[2] as usize);
     let payload = PayloadBytes(row[3] as usize);
     numbered(DecodedOutputLimits::new(row[1] as usize, values, payload).map(|_| ()))

@@ -47,6 +47,7 @@ impl TryFrom<u64> for Call {
 // A cost of a row.
 fn cost_of(values: u64, payload: u64, remainder: u64) -> PendingOutputPreflight {
     PendingOutputPreflight {
+        // A count by its type's name, as in budget_words: by `.into()` no line would say which of the two it is.
         field_values: FieldValues(values as usize),
         field_payload_bytes: PayloadBytes(payload as usize),
         remainder_len: remainder as usize,

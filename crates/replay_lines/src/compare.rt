@@ -5,6 +5,7 @@ use pendlist_rows::{Outcome, Row};
 use recorded::Numbers;
 
 // A text's first numbers; 0 for those that it lacks.
+// Beside `fill` of recorded_cache, which this program has no need of: that crate is of the list of the cache.
 fn numbers_in(text: &[u8]) -> [u64; 5] {
     let mut values = [0u64; 5];
     for (value, number) in values.iter_mut().zip(Numbers { rest: text }) {
@@ -21,11 +22,7 @@ fn limits_in(text: &[u8]) -> PendingFlowsConfig {
         max_entries_per_template: entries as usize,
         max_entry_size_bytes: size as usize,
         max_total_bytes: total as usize,
-        ttl: if text.contains(&b'-') {
-            None
-        } else {
-            Some(ttl)
-        },
+        ttl: (!text.contains(&b'-')).then_some(ttl),
     }
 }
 

@@ -11,7 +11,7 @@ use output_preflight::{Figures, preflight};
 use recorded::{Numbers, Tally, run_parts};
 use wire::Reading;
 
-// The reading with a number of the list. No `TryFrom`: neither type is of this crate.
+// The reading with a number of the list. No `TryFrom`: neither type is of this crate, and `wire` knows no list.
 fn reading_of(n: u64) -> Reading {
     match n {
         0 => Reading::V9Fixed,

@@ -15,6 +15,7 @@ use table_entries::{last_end, pack_bodies, sums_by_label};
 use table_records::{evictions_of, skip_records};
 
 // What is to be skipped: all of the least recent templates, until the others' bytes are at most `room`.
+// `evictions_by_sizes` of offer_plan counts so too: the only crate below both that has all it takes is one of laws.
 fn skip_total(
     entries: &[[u64; ENTRY_WORDS]],
     records: &[[u64; RECORD_WORDS]],

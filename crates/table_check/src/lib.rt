@@ -72,6 +72,7 @@ fn examine_table(
 }
 
 // Whether the flags are flags, and the words have no more templates and entries than the limits.
+// The words, no array of the header's alone: what is promised is of all the words.
 fn counts_legal(words: &[u64]) -> bool
     requires header_words_in_bounds { header_words ≤ length words.now }
     requires max_pending_flows_nonzero { (0 < (limits_of words.now).max_pending_flows) ×

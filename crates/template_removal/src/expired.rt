@@ -1,5 +1,6 @@
 // Removing the expired bodies of one label with its record, without an array.
-// Both areas are given, also where the words alone are read: what is asked is that the two hold a cache.
+// Both areas are given, also where the words alone are read: what is asked is that the two hold a cache. They are two
+// parameters, as some calls change the words alone.
 ghost use Rattle.std.specs.Prelude.{length, replicate};
 ghost use Rattle.pending_flows.specs.Header.{HoldsCache};
 ghost use Rattle.pending_calls.specs.Removal.{unexpired, RemovesFrom};

@@ -1,5 +1,6 @@
 // Removing one template whole, or its expired bodies, without an array (pending_flows.rs).
-// Both areas are given, also where the words alone are read: what is asked is that the two hold a cache.
+// Both areas are given, also where the words alone are read: what is asked is that the two hold a cache. They are two
+// parameters, as some calls change the words alone.
 #![tactic(auto)]
 
 mod expired;
