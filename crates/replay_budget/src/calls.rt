@@ -1,5 +1,5 @@
 // The calls of a recorded list, and their answers.
-use super::rows::{Call, Unknown, preflight_of, report_of};
+use super::rows::{Call, preflight_of, report_of};
 use answer_numbers::number_of;
 use budget_words::{export_exceeded, export_materialize, export_reserve};
 use output_budget::DecodedOutputBudget;
@@ -54,14 +54,14 @@ fn run_take(b: &mut DecodedOutputBudget) -> Told {
 }
 
 // Materializes the preflight of a row with its report.
-fn run_materialize(row: &[u64; 19], b: &mut DecodedOutputBudget) -> Result<Told, Unknown> {
+fn run_materialize(row: &[u64; 19], b: &mut DecodedOutputBudget) -> Told {
     let mut left = [0];
-    let answer = materialize_pending(b, preflight_of(row)?, report_of(row)?);
+    let answer = materialize_pending(b, preflight_of(row), report_of(row));
     let number = export_materialize(answer, &mut left);
-    Ok(Told {
+    Told {
         number,
         values: [left[0], 0, 0],
-    })
+    }
 }
 
 // Accepts limits, or refuses them.
@@ -73,10 +73,10 @@ fn run_limits(row: &[u64; 19]) -> Told {
 }
 
 // Runs the call of a row on the budget.
-pub fn run_call(row: &[u64; 19], b: &mut DecodedOutputBudget) -> Result<Told, Unknown> {
+pub fn run_call(row: &[u64; 19], b: &mut DecodedOutputBudget) -> Told {
     let values = FieldValues(row[1] as usize);
     let payload = PayloadBytes(row[2] as usize);
-    Ok(match Call::try_from(row[0])? {
+    match Call::from(row[0]) {
         Call::New => {
             *b = DecodedOutputBudget::new(values, payload);
             done([0; 3])
@@ -92,14 +92,14 @@ pub fn run_call(row: &[u64; 19], b: &mut DecodedOutputBudget) -> Result<Told, Un
         Call::Reserve => run_reserve(b, values, payload),
         Call::Rollback => numbered(rollback(b, values, payload)),
         Call::TakeExceeded => run_take(b),
-        Call::ValidateFullBudget => numbered(validate_pending_full_budget(*b, preflight_of(row)?)),
-        Call::ValidateRemaining => numbered(validate_pending_remaining(*b, preflight_of(row)?)),
-        Call::Materialize => run_materialize(row, b)?,
+        Call::ValidateFullBudget => numbered(validate_pending_full_budget(*b, preflight_of(row))),
+        Call::ValidateRemaining => numbered(validate_pending_remaining(*b, preflight_of(row))),
+        Call::Materialize => run_materialize(row, b),
         Call::Remaining => {
             let left = b.remaining();
             done([left.values.0 as u64, left.payload_bytes.0 as u64, 0])
         }
         Call::IsExceeded => done([u64::from(is_exceeded(*b)), 0, 0]),
         Call::NewLimits => run_limits(row),
-    })
+    }
 }
