@@ -9,6 +9,7 @@ ghost use Rattle.replay_preflight.specs.Same.{same_figures};
 
 use output_preflight::{Figures, preflight};
 use recorded::{Numbers, Tally, run_parts};
+use std::iter::Fuse;
 use wire::Reading;
 
 // The reading with a number of the list. No `TryFrom`: neither type is of this crate, and `wire` knows no list.
@@ -28,40 +29,56 @@ fn same_figures(a: Figures, b: Figures) -> bool
     a == b
 }
 
-// Runs a row, and answers whether it is as recorded; none where it is cut short or goes on, or has more widths or bytes
-// than there is room for.
-fn run_row(row: &[u8], widths: &mut [u16], body: &mut [u8]) -> Option<bool> {
-    let mut numbers = Numbers { rest: row };
+// The next number of a text, or 0 where none is left.
+fn next_number(numbers: &mut Fuse<Numbers<'_>>) -> u64 {
+    numbers.next().unwrap_or(0)
+}
+
+// What a row with more widths or bytes than there is room for answers, in place of a call: no refusal has this number.
+const NO_ROOM: Figures = Figures {
+    number: 255,
+    values: 0,
+    payload: 0,
+    remainder: 0,
+};
+
+// Runs the row that a text goes on with, if it has a number more, over ends of lines too, and answers whether it is as
+// recorded. Of more widths or bytes than there is room for, those that fit are read, and the row goes on behind them.
+fn run_row(numbers: &mut Fuse<Numbers<'_>>, widths: &mut [u16], body: &mut [u8]) -> Option<bool> {
     let reading = reading_of(numbers.next()?);
-    let limit = numbers.next()? as usize;
-    let widths = widths.get_mut(..numbers.next()? as usize)?;
-    for width in widths.iter_mut() {
-        *width = (numbers.next()? % 65536) as u16;
+    let limit = next_number(numbers) as usize;
+    let fields = next_number(numbers) as usize;
+    for width in widths.iter_mut().take(fields) {
+        *width = (next_number(numbers) % 65536) as u16;
     }
-    let body = body.get_mut(..numbers.next()? as usize)?;
-    for byte in body.iter_mut() {
-        *byte = (numbers.next()? % 256) as u8;
+    let body_len = next_number(numbers) as usize;
+    for byte in body.iter_mut().take(body_len) {
+        *byte = (next_number(numbers) % 256) as u8;
     }
     let recorded = Figures {
-        number: numbers.next()?,
-        values: numbers.next()?,
-        payload: numbers.next()?,
-        remainder: numbers.next()?,
+        number: next_number(numbers),
+        values: next_number(numbers),
+        payload: next_number(numbers),
+        remainder: next_number(numbers),
     };
-    if numbers.next().is_some() {
-        return None;
-    }
-    let got = Figures::from(preflight(body, widths, reading, limit));
+    let got = match (widths.get(..fields), body.get(..body_len)) {
+        (Some(widths), Some(body)) => Figures::from(preflight(body, widths, reading, limit)),
+        _ => NO_ROOM,
+    };
     Some(same_figures(got, recorded))
 }
 
-// Runs the rows of a text, a line each, and names those that differ.
+// Runs the rows of a text, and names those that differ.
 fn run_rows(rt: &impl Print, text: &[u8], mut tally: Tally) -> Tally {
     let mut widths = [0u16; 1024];
     let mut body = [0u8; 1024];
-    for row in text.split_inclusive(|byte| *byte == b'\n') {
-        let same = run_row(row, &mut widths, &mut body);
-        tally = tally.with_row(rt, same == Some(true));
+    let mut numbers = Numbers { rest: text }.fuse();
+    // A bound for the proof that it ends: a row has a byte at least.
+    for _ in 0..text.len() {
+        let Some(same) = run_row(&mut numbers, &mut widths, &mut body) else {
+            break;
+        };
+        tally = tally.with_row(rt, same);
     }
     tally
 }
