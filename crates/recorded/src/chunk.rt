@@ -36,7 +36,7 @@ pub fn read_full<R: Read>(reader: &mut R, buffer: &mut [u8]) -> usize
 }
 
 // At most so many buffers are read.
-const BUFFERS: usize = 65536;
+pub const BUFFERS: usize = 65536;
 
 // Reads the text into the buffer behind its first `kept` bytes, and answers how many bytes it then has.
 // The whole buffer and a place, no part: what is promised is of the bytes that are kept too.

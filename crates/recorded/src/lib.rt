@@ -5,6 +5,6 @@ mod chunk;
 mod numbers;
 mod tally;
 
-pub use chunk::{BUFFER, read_full, run_parts};
+pub use chunk::{BUFFER, BUFFERS, read_full, run_parts};
 pub use numbers::Numbers;
 pub use tally::Tally;

@@ -10,5 +10,5 @@ mod rows;
 
 pub use calls::{Answered, run_call};
 pub use held::Held;
-pub use offers::{Offer, Offered};
+pub use offers::{KEPT, Offer, Offered};
 pub use rows::{Call, Row, read_row};
