@@ -20,6 +20,13 @@ pub struct Answered {
     pub value: u64,
 }
 
+// The answer to what is no call, and to an offer that would be longer than any: no call answers with this number, but a
+// row may have it, and is then compared with the areas like every other.
+const NO_CALL: Answered = Answered {
+    number: 99,
+    value: 0,
+};
+
 // The answer of a call that tells a value: 0 with it, or the refusal's number.
 fn told<E>(answer: Result<u64, E>) -> Answered
 where
@@ -65,18 +72,21 @@ fn read_len(words: &[u64], bytes: &[u8], k: usize) -> Result<u64, PlaceRefusal> 
     Ok(read_handed_out(words, bytes, k).len() as u64)
 }
 
-// Makes a call; an offer is that of body k. What is no call, and an offer that is too long, has no answer.
+// Makes a call; an offer is that of body k. What is no call, and an offer that is too long, is answered too.
 pub fn run_call(
     words: &mut [u64],
     bytes: &mut [u8],
     call: Option<Call>,
     args: [u64; 8],
     k: u64,
-) -> Option<Answered> {
+) -> Answered {
+    let Some(call) = call else {
+        return NO_CALL;
+    };
     let id = id_of(args[0]);
-    Some(match call? {
+    match call {
         Call::Open => told(open(limits_of(args), words, bytes).map(|()| 0)),
-        Call::Offer => run_offer(words, bytes, args, k)?,
+        Call::Offer => run_offer(words, bytes, args, k).unwrap_or(NO_CALL),
         Call::Drain => told(drain(words, bytes, id, args[1]).map(|count| count as u64)),
         Call::PutBack => {
             told(restore_replay_suffix(words, bytes, id, args[1] as usize).map(|()| 0))
@@ -87,5 +97,5 @@ pub fn run_call(
             told(would_accept(words, bytes, id, args[1] as usize, args[2]).map(|yes| yes as u64))
         }
         Call::Read => told(read_len(words, bytes, args[0] as usize)),
-    })
+    }
 }

@@ -28,10 +28,9 @@ fn same_figures(held: Held<'_>, told: [u64; 8]) -> bool {
 }
 
 // What of a row differs from the answer and the areas after it.
-pub fn compare(held: Held<'_>, row: Row<'_>, got: Option<Answered>) -> Result<(), Differs> {
+pub fn compare(held: Held<'_>, row: Row<'_>, got: Answered) -> Result<(), Differs> {
     let told = row.told;
     let listed = row.listed.ok_or(Differs::Length)?;
-    let got = got.ok_or(Differs::Number)?;
     if got.number != told[0] {
         return Err(Differs::Number);
     }

@@ -36,12 +36,12 @@ fn lent_for(row: Row<'_>, replay: Replay) -> Replay {
 }
 
 // Whether a row is an opening that was refused: it leaves the list before it open.
-fn is_refused_opening(row: Row<'_>, got: Option<Answered>) -> bool {
-    row.call == Some(Call::Open) && got.is_none_or(|got| got.number != 0)
+fn is_refused_opening(row: Row<'_>, got: Answered) -> bool {
+    row.call == Some(Call::Open) && got.number != 0
 }
 
 // Counts the offers after a row: an accepted opening begins anew.
-fn count_offers(offered: &mut Offered, row: Row<'_>, got: Option<Answered>) {
+fn count_offers(offered: &mut Offered, row: Row<'_>, got: Answered) {
     match row.call {
         Some(Call::Open) if !is_refused_opening(row, got) => *offered = Offered::new(),
         Some(Call::Offer) => offered.push(Offer {
@@ -53,25 +53,14 @@ fn count_offers(offered: &mut Offered, row: Row<'_>, got: Option<Answered>) {
 }
 
 // Makes the call of a row in the lent part of the areas.
-fn run_lent(
-    words: &mut [u64],
-    bytes: &mut [u8],
-    row: Row<'_>,
-    lent: Replay,
-    k: u64,
-) -> Option<Answered> {
+fn run_lent(words: &mut [u64], bytes: &mut [u8], row: Row<'_>, lent: Replay, k: u64) -> Answered {
     let (words, _) = words.split_at_mut(lent.words.min(words.len()));
     let (bytes, _) = bytes.split_at_mut(lent.bytes.min(bytes.len()));
     run_call(words, bytes, row.call, row.args, k)
 }
 
 // Compares a row with the lent part of the areas.
-fn compare_lent(
-    held: Held<'_>,
-    row: Row<'_>,
-    got: Option<Answered>,
-    lent: Replay,
-) -> Result<(), Differs> {
+fn compare_lent(held: Held<'_>, row: Row<'_>, got: Answered, lent: Replay) -> Result<(), Differs> {
     let (words, _) = held.words.split_at(lent.words.min(held.words.len()));
     let (bytes, _) = held.bytes.split_at(lent.bytes.min(held.bytes.len()));
     compare(
