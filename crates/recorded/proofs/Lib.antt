@@ -1,2 +1,3 @@
 pub mod BytesTaken
+pub mod DigitsRead
 pub mod PartsRun
