@@ -12,6 +12,7 @@ use table::entry_at;
 use table_entries::{Kept, StayTest, move_entry, stays};
 
 // Keeps of the entries those that stay by themselves, in order.
+// Where the next one goes is counted on: worked out of `kept`, it is an instruction more an entry.
 // No `sweep` with nothing to skip: in a trial one loop for both slowed one of the two (docs/DECISIONS.md).
 // The words and how many entries, no parts: `as_chunks_mut` says nothing of what the words end as.
 pub fn sweep_staying(words: &mut [u64], entries: usize, test: StayTest) -> Kept
@@ -21,13 +22,15 @@ pub fn sweep_staying(words: &mut [u64], entries: usize, test: StayTest) -> Kept
 {
     let mut kept: usize = 0;
     let mut bytes: u64 = 0;
+    let mut to = HEADER_WORDS;
     for i in 0..entries {
         let from = HEADER_WORDS + ENTRY_WORDS * i;
         let entry = entry_at(words, from);
         if stays(test, entry) {
-            move_entry(words, from, HEADER_WORDS + ENTRY_WORDS * kept);
+            move_entry(words, from, to);
             kept += 1;
             bytes = bytes.wrapping_add(entry.len);
+            to += ENTRY_WORDS;
         }
     }
     Kept {

@@ -18,16 +18,15 @@ loop-i-preserved c =
     let more : 0 < c.args.entries - i = omega arith in
     let less : c.args.entries - (i + 1) ≡ c.args.entries - i - 1 = omega arith in
     let next : entries_at + entry_words * (i + 1) ≡ entries_at + entry_words * i + entry_words = omega arith in
-    let up : entries_at + entry_words * (c.loop-i.kept + 1) ≡ entries_at + entry_words * c.loop-i.kept + entry_words =
-    omega arith in
     elim c.if-stays.branch [
       | then-stays v ↦ rw (
         v.words-is ∙ v.move_entry.ensures ∙ ap (put_entry _ _) (sym c.entry_at-entry.ensures),
         v.kept-is,
         v.bytes-is,
+        v.to-is,
       )
           (search (entry_kept, first_kept, rules))
-      | else-stays v ↦ rw (v.words-is, v.kept-is, v.bytes-is) (search (entry_left_out, first_goes, rules))
+      | else-stays v ↦ rw (v.words-is, v.kept-is, v.bytes-is, v.to-is) (search (entry_left_out, first_goes, rules))
     ]
 
 pub returns : goal.returns

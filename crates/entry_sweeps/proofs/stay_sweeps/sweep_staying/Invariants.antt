@@ -10,5 +10,4 @@ use Rattle.entry_sweeps.proofs.stay_sweeps.sweep_staying.Given as goal
 abbrev pub invariant-loop-i : goal.invariant-loop-i
 invariant-loop-i l = KeptSoFar (kept_by (stays l.test)) (kept_by (stays l.test)
     (entries_from l.initial.words entries_at l.entries)) l.entries l.initial.words l.words
-    l.kept l.bytes (l.entries - l.i) (entries_at + entry_words * l.i)
-    (entries_at + entry_words * l.kept)
+    l.kept l.bytes (l.entries - l.i) (entries_at + entry_words * l.i) l.to
