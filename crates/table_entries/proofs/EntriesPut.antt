@@ -1,7 +1,10 @@
 -- Entries stored one behind the other, from a word on, and an entry moved. Assumes nothing.
-use Rattle.std.proofs.Common.{◌≡◌, ℕ, ◌+◌, ◌*◌, ◌≤◌, List, [], ◌∷◌, length, take, drop, refl, ◌∙◌, arith}
+use Rattle.std.proofs.Common.{◌≡◌, ℕ, suc, ◌+◌, ◌*◌, ◌<◌, ◌≤◌, List, [], ◌∷◌, length, take, drop, sym, refl, ◌∙◌, append_assoc, add-one, arith, drop-cons}
+use lib.Seq.{sets-eq}
+use Rattle.areas.specs.Overwrite.{moved}
 use Rattle.config.specs.Limits.{entry_words}
 use Rattle.table.specs.declared.Entry.{Entry}
+use Rattle.table.specs.Layout.{word}
 use Rattle.table.specs.Table.{entry_at, entries_from}
 use Rattle.table_entries.specs.Sweep.{put_entry}
 use Rattle.table_entries.proofs.Frames.{entry_below, length_put, take_put, drop_put, entry_put}
@@ -35,3 +38,28 @@ entries_put w p (e ∷ es) h =
     (take_puts w' (p + entry_words) es (p + entry_words) (omega arith))
     ∙ entry_put w p e (omega arith) in
     rw (stored, entries_put w' (p + entry_words) es (omega (arith, length_put w p e)))
+
+-- an entry's words moved are the entry stored
+pub entry_moved : (w : List ℕ) (from to : ℕ) → from + entry_words ≤ length w → to + entry_words ≤ length w →
+    moved from to 4 w ≡ put_entry w to (entry_at w from)
+unfolding moved put_entry
+entry_moved w from to source target =
+    let vs : List ℕ = word w from ∷ word w (from + 1) ∷ word w (from + 2) ∷ word w (from + 3) ∷ [] in
+    let next : (i : ℕ) → i < length w → drop i w ≡ word w i ∷ drop (i + 1) w =
+    λ i h. rw (add-one i) (drop-cons w i 0 h) in
+    let two : from + 1 + 1 ≡ from + 2 = omega arith in
+    let three : from + 2 + 1 ≡ from + 3 = omega arith in
+    let part : take 4 (drop from w) ≡ vs =
+    rw (
+      next from (omega arith),
+      next (from + 1) (omega arith),
+      two,
+      next (from + 2) (omega arith),
+      three,
+      next (from + 3) (omega arith),
+    ) in
+    let second : suc to ≡ to + 1 = omega arith in
+    let third : suc (to + 1) ≡ to + 2 = omega arith in
+    let fourth : suc (to + 2) ≡ to + 3 = omega arith in
+    let stored = rw (second, third, fourth) at (sym (sets-eq vs w to target)) in
+    rw part (sym (append_assoc (take to w) vs (drop (to + 4) w)) ∙ stored)

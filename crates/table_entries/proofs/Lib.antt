@@ -2,6 +2,7 @@ pub mod SumsPasses
 pub mod Shares
 pub mod LabelSums
 pub mod Lengths
+pub mod MovedDown
 pub mod Frames
 pub mod KeepPass
 pub mod SweepPass
