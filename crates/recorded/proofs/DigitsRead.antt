@@ -33,7 +33,7 @@ module _ {text : List ℕ} {value i : ℕ} (inv : DigitsRead text value i) where
         (λ (from : i ≤ k). let same : k ≡ i = omega arith in rw same is) (cases_lt k i);
   }
 
-  -- where the next byte is no digit, or none is left, these are all digits at the front
+  -- where the next byte is no digit, or none is left, these are all the digits at the front
   all_read : i ≤ length text → (i < length text → not (is_ascii_digit (get_or text i 0)) ≡ true) →
       i ≡ digits_at_front text
   all_read h stop =

@@ -28,7 +28,7 @@ fn first_digit(text: &[u8]) -> Option<usize>
     text.iter().position(|byte| byte.is_ascii_digit())
 }
 
-// The number of the digits that a text begins with, and how many they are.
+// The number that the digits at a text's front say, and how many digits these are.
 // One pass over them: a recorded list is little else, and to find their end first takes half as long again.
 #[tactic(auto, using(crate::proofs::DigitsRead::reading))]
 fn leading_number(text: &[u8]) -> (u64, usize)

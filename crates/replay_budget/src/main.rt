@@ -49,6 +49,7 @@ fn run_row(row: &[u64; 19], budget: &mut DecodedOutputBudget) -> bool {
 
 // Runs the rows of a text, and names those that differ.
 fn run_rows(rt: &impl Print, text: &[u8], replay: &mut Replay) {
+    // Fused: where no digit is left, each call would search the rest anew.
     let mut numbers = Numbers { rest: text }.fuse();
     // A bound for the proof that it ends: a row has a byte at least.
     for _ in 0..text.len() {

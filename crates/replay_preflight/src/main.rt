@@ -72,6 +72,7 @@ fn run_row(numbers: &mut Fuse<Numbers<'_>>, widths: &mut [u16], body: &mut [u8])
 fn run_rows(rt: &impl Print, text: &[u8], mut tally: Tally) -> Tally {
     let mut widths = [0u16; 1024];
     let mut body = [0u8; 1024];
+    // Fused: where no digit is left, each call would search the rest anew.
     let mut numbers = Numbers { rest: text }.fuse();
     // A bound for the proof that it ends: a row has a byte at least.
     for _ in 0..text.len() {
